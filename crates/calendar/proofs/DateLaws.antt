@@ -1,0 +1,122 @@
+-- Laws of the calendar's definitions, which the functions' proofs and other crates cite.
+-- Assumes nothing.
+use mathlib.Core.Path.{_≡_, refl, sym, ap, _∙_}
+use mathlib.Core.Bool.{Bool, true, false, cond, _&&_}
+use mathlib.Core.List.{List, [], _∷_}
+use Prim.Native.Nat.{ℕ, zero, suc, _+_, _-_, _*_, _/_, _%_, _≤_, _<_}
+use native.Mathlib.Omega.{arith}
+use native.Mathlib.Nat.{le-refl, zero-add, suc-add}
+use native.Mathlib.Numerals.{add-one}
+use borrow.Author.Tests.{leb-true, eqb-true, eqb-false}
+use lib.Dec.{leb, eqb}
+use lib.ListN.{getD}
+use Rattle.refusal.proofs.Laws.{and-left, and-right}
+use Rattle.calendar.specs.declared.dates.Date.{Date}
+use Rattle.calendar.specs.Dates.{dateOf, monthLengths, leapDays, monthLength, isDate, daysOfMonths, dayOfYear, daysOfYears}
+
+-- an entry of a table whose entries are all at most a limit, or the 0 past its end
+all-small : ℕ → List ℕ → Bool
+all-small limit [] = true
+all-small limit (x ∷ xs) = leb x limit && all-small limit xs
+
+entry-small : (limit : ℕ) (xs : List ℕ) → all-small limit xs ≡ true → (i : ℕ) → getD xs i 0 ≤ limit
+unfolding all-small
+entry-small limit [] h i = omega arith
+entry-small limit (x ∷ xs) h zero = leb-true x limit (and-left (leb x limit) (all-small limit xs) h)
+entry-small limit (x ∷ xs) h (suc i) = entry-small limit xs (and-right (leb x limit) (all-small limit xs) h) i
+
+pub table-small : (i : ℕ) → getD monthLengths i 0 ≤ 31
+unfolding all-small
+table-small i = entry-small 31 monthLengths refl i
+
+pub leap-small : (year : ℕ) → leapDays year ≤ 1
+unfolding leapDays
+leap-small year = go (eqb (year % 4) 0)
+  where
+    go : (b : Bool) → cond b 1 0 ≤ 1
+    go true = omega arith
+    go false = omega arith
+
+pub month-small : (year month : ℕ) → monthLength year month ≤ 32
+unfolding monthLength
+month-small year month = go (eqb month 2)
+  where
+    go : (b : Bool) → getD monthLengths (month - 1) 0 + cond b (leapDays year) 0 ≤ 32
+    go true = omega (arith, table-small (month - 1), leap-small year)
+    go false = omega (arith, table-small (month - 1))
+
+-- what a date's check tells of its parts
+pub record Parts (d : Date) : Type 0 where
+  pub year-from : 1996 ≤ d .year
+  pub year-to : d .year ≤ 2099
+  pub month-from : 1 ≤ d .month
+  pub month-to : d .month ≤ 12
+  pub day-from : 1 ≤ d .day
+  pub day-to : d .day ≤ monthLength (d .year) (d .month)
+  pub day-small : d .day ≤ 32
+
+pub parts : (d : Date) → isDate d ≡ true → Parts d
+unfolding isDate
+parts d h =
+    let a = leb 1996 (d .year) in
+    let b = leb (d .year) 2099 in
+    let e = leb 1 (d .month) in
+    let f = leb (d .month) 12 in
+    let g = leb 1 (d .day) in
+    let l = monthLength (d .year) (d .month) in
+    let h5 = and-left (a && b && e && f && g) (leb (d .day) l) h in
+    let h4 = and-left (a && b && e && f) g h5 in
+    let h3 = and-left (a && b && e) f h4 in
+    let h2 = and-left (a && b) e h3 in
+    let day-to : d .day ≤ l = leb-true (d .day) l (and-right (a && b && e && f && g) (leb (d .day) l) h) in
+    record {
+      year-from = leb-true 1996 (d .year) (and-left a b h2);
+      year-to = leb-true (d .year) 2099 (and-right a b h2);
+      month-from = leb-true 1 (d .month) (and-right (a && b) e h3);
+      month-to = leb-true (d .month) 12 (and-right (a && b && e) f h4);
+      day-from = leb-true 1 (d .day) (and-right (a && b && e && f) g h5);
+      day-to = day-to;
+      day-small = omega (arith, month-small (d .year) (d .month));
+    }
+
+-- one month more
+pub months-next : (year m : ℕ) → daysOfMonths year (m + 1) ≡ daysOfMonths year m + monthLength year (m + 1)
+unfolding daysOfMonths
+months-next year m = rw add-one
+
+months-rise : (year m k : ℕ) → daysOfMonths year m ≤ daysOfMonths year (k + m)
+unfolding daysOfMonths
+months-rise year m zero = rw zero-add (le-refl (daysOfMonths year m))
+months-rise year m (suc k) =
+    rw suc-add (omega (arith, months-rise year m k))
+
+months-all : (year : ℕ) → daysOfMonths year 12 ≡ 365 + leapDays year
+unfolding daysOfMonths monthLength
+months-all year = omega arith
+
+-- "1 January is day t = 1 and 31 December is 365 or 366"
+pub day-of-year-range : (d : Date) → isDate d ≡ true → (1 ≤ dayOfYear d) × (dayOfYear d ≤ 365 + leapDays (d .year))
+unfolding dayOfYear
+day-of-year-range d h = go (d .month) (parts d h .month-from) (parts d h .month-to) (parts d h .day-to)
+  where
+    go : (m : ℕ) → 1 ≤ m → m ≤ 12 → d .day ≤ monthLength (d .year) m → (1 ≤ daysOfMonths (d .year) (m - 1) + d .day) × (daysOfMonths (d .year) (m - 1) + d .day ≤ 365 + leapDays (d .year))
+    go m a b e =
+        let all : 12 - m + m ≡ 12 = omega arith in
+        let one : m - 1 + 1 ≡ m = omega arith in
+        let rise : daysOfMonths (d .year) m ≤ daysOfMonths (d .year) 12 = rw all at (months-rise (d .year) m (12 - m)) in
+        let next : daysOfMonths (d .year) m ≡ daysOfMonths (d .year) (m - 1) + monthLength (d .year) m = rw one at (months-next (d .year) (m - 1)) in
+        (omega (arith, parts d h), omega (arith, months-all (d .year)))
+
+-- of each four years the first has the leap day
+pub years-closed : (n : ℕ) → daysOfYears n ≡ n * 365 + (n + 3) / 4
+unfolding daysOfYears leapDays
+years-closed zero = refl
+years-closed (suc n) = go (eqb ((1996 + n) % 4) 0) refl (years-closed n)
+  where
+    go : (b : Bool) → eqb ((1996 + n) % 4) 0 ≡ b → daysOfYears n ≡ n * 365 + (n + 3) / 4 → daysOfYears n + (365 + cond b 1 0) ≡ suc n * 365 + (suc n + 3) / 4
+    go true e h = omega (arith, eqb-true ((1996 + n) % 4) 0 e)
+    go false e h = omega (arith, eqb-false ((1996 + n) % 4) 0 e)
+
+-- what `is_date(date_of(n))` answers
+pub checked : (n : ℕ) {d : Date} {r b : Bool} → d ≡ dateOf n → r ≡ isDate d → r ≡ b → isDate (dateOf n) ≡ b
+checked n e h t = sym (ap isDate e) ∙ sym h ∙ t

@@ -1,0 +1,71 @@
+-- Document 01: "A day enquiry takes a date and a list and gives weekday, t, season, day type and value count."
+-- Assumes nothing.
+use mathlib.Core.List.{List}
+use Prim.Native.Nat.{ℕ}
+use Rattle.refusal.specs.declared.Verdict.{Verdict}
+use Rattle.refusal.specs.Verdict.{_then_, number, place}
+use Rattle.calendar.specs.declared.dates.Date.{Date}
+use Rattle.calendar.specs.declared.days.Season.{Season}
+use Rattle.calendar.specs.declared.days.DayType.{DayType}
+use Rattle.calendar.specs.declared.enquiry.Day.{Day}
+use Rattle.calendar.specs.declared.enquiry.DayAnswer.{DayAnswer}
+use Rattle.calendar.specs.declared.enquiry.DayReport.{DayReport}
+use Rattle.calendar.specs.Dates.{dateOf, dayOfYear, weekdayOf}
+use Rattle.calendar.specs.Days.{season, dayType, valueCount}
+use Rattle.calendar.specs.Holidays.{dateQuestion, holidaysQuestion}
+
+-- what the enquiry says of a date
+abbrev pub describe : Date → List ℕ → Day
+describe d holidays =
+    record {
+      weekday = weekdayOf d;
+      t = dayOfYear d;
+      season = season d;
+      «day_type» = dayType d holidays;
+      values = valueCount d;
+    }
+
+-- "the day enquiry 7 and 9"
+abbrev pub dayCheck : ℕ → List ℕ → Verdict
+dayCheck date holidays = dateQuestion date 0 then holidaysQuestion holidays
+
+-- the description where both pass, else the refusal
+abbrev pub answered : Verdict → Day → DayAnswer
+answered Verdict.Pass day = DayAnswer.Described day
+answered (Verdict.Refused r) day = DayAnswer.Refused (Verdict.Refused r)
+
+unfoldable pub dayEnquiry : ℕ → List ℕ → DayAnswer
+dayEnquiry date holidays = answered (dayCheck date holidays) (describe (dateOf date) holidays)
+
+-- seasons by the order of the tables in the file, and "day type (1 weekday, 2 Saturday, 3 Sunday)"
+abbrev pub seasonFigure : Season → ℕ
+seasonFigure Season.Winter = 1
+seasonFigure Season.Summer = 2
+seasonFigure Season.Transition = 3
+
+abbrev pub dayTypeFigure : DayType → ℕ
+dayTypeFigure DayType.Weekday = 1
+dayTypeFigure DayType.Saturday = 2
+dayTypeFigure DayType.Sunday = 3
+
+-- document 01's figures for each case of the answer: an accepted enquiry has number and place 0
+abbrev pub reportedDay : Day → DayReport
+reportedDay day =
+    record {
+      number = 0;
+      place = 0;
+      weekday = day .weekday;
+      t = day .t;
+      season = seasonFigure (day .season);
+      «day_type» = dayTypeFigure (day .«day_type»);
+      values = day .values;
+    }
+
+-- "A refusal gives number, place and zeros elsewhere"
+abbrev pub reportedRefusal : Verdict → DayReport
+reportedRefusal v =
+    record { number = number v; place = place v; weekday = 0; t = 0; season = 0; «day_type» = 0; values = 0 }
+
+abbrev pub reported : DayAnswer → DayReport
+reported (DayAnswer.Described day) = reportedDay day
+reported (DayAnswer.Refused v) = reportedRefusal v

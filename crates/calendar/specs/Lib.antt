@@ -1,0 +1,4 @@
+pub mod Dates
+pub mod Days
+pub mod Holidays
+pub mod Enquiry

@@ -1,0 +1,119 @@
+// What sort of day a date is: its season, its day type and its clock change.
+use crate::dates::Date;
+ghost use mathlib.Core.Path.{_≡_};
+ghost use mathlib.Core.Bool.{true};
+ghost use Rattle.calendar.specs.Dates.{isDate, weekdayOf};
+ghost use Rattle.calendar.specs.Days.{season, dayType, listed, lastSunday, clock, valuesUnder};
+
+pub enum Season {
+    Winter,
+    Summer,
+    Transition,
+}
+
+pub enum DayType {
+    Weekday,
+    Saturday,
+    Sunday,
+}
+
+// What the clocks do in a day's third hour.
+pub enum Clock {
+    Unchanged,
+    Forward,
+    Back,
+}
+
+pub fn season_of(d: Date) -> Season
+    requires { ⌜ isDate d ≡ true ⌝ }
+    ensures { λ r. ⌜ r ≡ season d ⌝ }
+{
+    let month_day = d.month * 100 + d.day;
+    if 1101 <= month_day {
+        return Season::Winter;
+    }
+    if month_day <= 320 {
+        return Season::Winter;
+    }
+    if 515 <= month_day {
+        if month_day <= 914 {
+            return Season::Summer;
+        }
+    }
+    Season::Transition
+}
+
+// Whether a date, as a number, stands in the list.
+pub fn is_listed(date: u32, holidays: &[u32]) -> bool
+    ensures { λ r. ⌜ r ≡ listed date (now (holidays .entry)) ⌝ }
+{
+    let mut i = 0;
+    while i < holidays.len() {
+        if holidays[i] == date {
+            return true;
+        }
+        i += 1;
+    }
+    false
+}
+
+// The day type, of a date whose weekday is known.
+pub fn day_type_of(d: Date, weekday: u32, holidays: &[u32]) -> DayType
+    requires { ⌜ (isDate d ≡ true) × (weekday ≡ weekdayOf d) ⌝ }
+    ensures { λ r. ⌜ r ≡ dayType d (now (holidays .entry)) ⌝ }
+{
+    let month_day = d.month * 100 + d.day;
+    if weekday == 7 {
+        return DayType::Sunday;
+    }
+    if month_day == 1224 {
+        return DayType::Saturday;
+    }
+    if month_day == 1231 {
+        return DayType::Saturday;
+    }
+    if is_listed(crate::dates::number_of(d), holidays) {
+        return DayType::Sunday;
+    }
+    if weekday == 6 {
+        return DayType::Saturday;
+    }
+    DayType::Weekday
+}
+
+fn is_last_sunday(d: Date, weekday: u32) -> bool
+    requires { ⌜ (isDate d ≡ true) × (weekday ≡ weekdayOf d) ⌝ }
+    ensures { λ r. ⌜ r ≡ lastSunday d ⌝ }
+{
+    if weekday != 7 {
+        return false;
+    }
+    crate::dates::month_length(d.year, d.month) < d.day + 7
+}
+
+// What the clocks do, on a date whose weekday is known.
+pub fn clock_of(d: Date, weekday: u32) -> Clock
+    requires { ⌜ (isDate d ≡ true) × (weekday ≡ weekdayOf d) ⌝ }
+    ensures { λ r. ⌜ r ≡ clock d ⌝ }
+{
+    if !is_last_sunday(d, weekday) {
+        return Clock::Unchanged;
+    }
+    if d.month == 3 {
+        return Clock::Forward;
+    }
+    if d.month == 10 {
+        return Clock::Back;
+    }
+    Clock::Unchanged
+}
+
+pub fn values_under(c: Clock) -> u32
+    ensures { λ r. ⌜ r ≡ valuesUnder c ⌝ }
+{
+    match c {
+        Clock::Unchanged => 96,
+        Clock::Forward => 92,
+        Clock::Back => 100,
+    }
+}
