@@ -7,9 +7,9 @@ use Prim.Native.Nat.{ℕ, zero, suc, _+_, _-_, _*_, _/_, _%_, _≤_, _<_}
 use native.Mathlib.Omega.{arith}
 use native.Mathlib.Nat.{le-refl, zero-add, suc-add}
 use native.Mathlib.Numerals.{add-one}
-use borrow.Author.Tests.{leb-true, eqb-true, eqb-false}
+use borrow.Author.Tests.{le-leb, leb-true, eqb-true, eqb-false}
 use lib.Dec.{leb, eqb}
-use lib.ListN.{getD}
+use lib.ListN.{length, getD}
 use Rattle.refusal.proofs.Laws.{and-left, and-right}
 use Rattle.calendar.specs.declared.dates.Date.{Date}
 use Rattle.calendar.specs.Dates.{dateOf, monthLengths, leapDays, monthLength, isDate, daysOfMonths, dayOfYear, daysOfYears}
@@ -45,6 +45,22 @@ month-small year month = go (eqb month 2)
     go true = omega (arith, table-small (month - 1), leap-small year)
     go false = omega (arith, table-small (month - 1))
 
+-- an entry of a table whose entries are all at least a limit
+all-large : ℕ → List ℕ → Bool
+all-large limit [] = true
+all-large limit (x ∷ xs) = leb limit x && all-large limit xs
+
+entry-large : (limit : ℕ) (xs : List ℕ) → all-large limit xs ≡ true → (i : ℕ) → i < length xs → limit ≤ getD xs i 0
+unfolding all-large
+entry-large limit [] h i l = absurd (omega arith)
+entry-large limit (x ∷ xs) h zero l = leb-true limit x (and-left (leb limit x) (all-large limit xs) h)
+entry-large limit (x ∷ xs) h (suc i) l =
+    entry-large limit xs (and-right (leb limit x) (all-large limit xs) h) i (omega arith)
+
+pub month-large : (year month : ℕ) → 1 ≤ month → month ≤ 12 → 28 ≤ monthLength year month
+unfolding monthLength all-large
+month-large year month a b = omega (arith, entry-large 28 monthLengths refl (month - 1) (omega arith))
+
 -- what a date's check tells of its parts
 pub record Parts (d : Date) : Type 0 where
   pub year-from : 1996 ≤ d .year
@@ -79,6 +95,18 @@ parts d h =
       day-small = omega (arith, month-small (d .year) (d .month));
     }
 
+-- where year, month and day are in range, the month's length l decides
+pub by-length : (d : Date) (l : ℕ) → 1996 ≤ d .year → d .year ≤ 2099 → 1 ≤ d .month → d .month ≤ 12 → 1 ≤ d .day → l ≡ monthLength (d .year) (d .month) → leb (d .day) l ≡ isDate d
+unfolding isDate
+by-length d l a b e f g h =
+    rw (le-leb 1996 (d .year) a, le-leb (d .year) 2099 b, le-leb 1 (d .month) e, le-leb (d .month) 12 f, le-leb 1 (d .day) g, h)
+
+-- the parts make a date
+pub is-date : (d : Date) → 1996 ≤ d .year → d .year ≤ 2099 → 1 ≤ d .month → d .month ≤ 12 → 1 ≤ d .day → d .day ≤ monthLength (d .year) (d .month) → isDate d ≡ true
+is-date d a b e f g l =
+    let length = monthLength (d .year) (d .month) in
+    sym (by-length d length a b e f g refl) ∙ le-leb (d .day) length l
+
 -- one month more
 pub months-next : (year m : ℕ) → daysOfMonths year (m + 1) ≡ daysOfMonths year m + monthLength year (m + 1)
 unfolding daysOfMonths
@@ -90,7 +118,12 @@ months-rise year m zero = rw zero-add (le-refl (daysOfMonths year m))
 months-rise year m (suc k) =
     rw suc-add (omega (arith, months-rise year m k))
 
-months-all : (year : ℕ) → daysOfMonths year 12 ≡ 365 + leapDays year
+-- no month stands before January
+pub january : (year : ℕ) → daysOfMonths year 0 ≡ 0
+unfolding daysOfMonths
+january year = refl
+
+pub months-all : (year : ℕ) → daysOfMonths year 12 ≡ 365 + leapDays year
 unfolding daysOfMonths monthLength
 months-all year = omega arith
 
@@ -106,6 +139,11 @@ day-of-year-range d h = go (d .month) (parts d h .month-from) (parts d h .month-
         let rise : daysOfMonths (d .year) m ≤ daysOfMonths (d .year) 12 = rw all at (months-rise (d .year) m (12 - m)) in
         let next : daysOfMonths (d .year) m ≡ daysOfMonths (d .year) (m - 1) + monthLength (d .year) m = rw one at (months-next (d .year) (m - 1)) in
         (omega (arith, parts d h), omega (arith, months-all (d .year)))
+
+-- one year more
+pub years-next : (n : ℕ) → daysOfYears (n + 1) ≡ daysOfYears n + (365 + leapDays (1996 + n))
+unfolding daysOfYears
+years-next n = rw add-one
 
 -- of each four years the first has the leap day
 pub years-closed : (n : ℕ) → daysOfYears n ≡ n * 365 + (n + 3) / 4

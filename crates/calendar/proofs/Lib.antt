@@ -1,1 +1,2 @@
 pub mod DateLaws
+pub mod NextDay

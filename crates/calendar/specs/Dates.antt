@@ -1,8 +1,9 @@
 -- Document 01, "Calendar": dates, day numbers, weekdays and the day of the year.
 -- Assumes nothing.
-use mathlib.Core.Bool.{Bool, cond, _&&_}
+use mathlib.Core.Path.{_≡_}
+use mathlib.Core.Bool.{Bool, true, cond, _&&_}
 use mathlib.Core.List.{List, [], _∷_}
-use Prim.Native.Nat.{ℕ, zero, suc, _+_, _-_, _*_, _/_, _%_}
+use Prim.Native.Nat.{ℕ, zero, suc, _+_, _-_, _*_, _/_, _%_, _<_}
 use lib.Dec.{leb, ltb, eqb}
 use lib.ListN.{getD}
 use Rattle.calendar.specs.declared.dates.Date.{Date}
@@ -65,3 +66,8 @@ nextDay d =
     (cond (ltb (d .month) 12)
     (record { year = d .year; month = d .month + 1; day = 1 })
     (record { year = d .year + 1; month = 1; day = 1 }))
+
+-- the next day has the next day number, and is a date unless the span is over: proved in proofs/NextDay.antt
+pub record NextDayCounts (d : Date) : Type 0 where
+  pub counts : dayNumber (nextDay d) ≡ dayNumber d + 1
+  pub isDateToo : numberOf d < 20991231 → isDate (nextDay d) ≡ true

@@ -1,19 +1,11 @@
 -- `calendar::dates::is_date` meets its contract: each `return` rewrites with the tests that led there.
 -- Assumes nothing.
-use mathlib.Core.Path.{_≡_}
-use Prim.Native.Nat.{ℕ, _≤_}
-use lib.Dec.{leb}
-use Rattle.calendar.specs.declared.dates.Date.{Date}
 use borrow.Author.Tests.{le-leb, lt-leb}
-use Rattle.calendar.specs.Dates.{isDate, monthLength}
+use Rattle.calendar.specs.Dates.{isDate}
+use Rattle.calendar.proofs.DateLaws.{by-length}
 use borrow.Author.Needs.{needs}
 use Rattle.calendar.proofs.dates.is_date.Statement.{statement}
 use Rattle.calendar.proofs.dates.is_date.Tie as tie
-
--- past the tests of year and month
-last : (d : Date) (l : ℕ) → 1996 ≤ d .year → d .year ≤ 2099 → 1 ≤ d .month → d .month ≤ 12 → 1 ≤ d .day → l ≡ monthLength (d .year) (d .month) → leb (d .day) l ≡ isDate d
-unfolding isDate
-last d l a b e f g h = rw (le-leb 1996 (d .year) a, le-leb (d .year) 2099 b, le-leb 1 (d .month) e, le-leb (d .month) 12 f, le-leb 1 (d .day) g, h)
 
 returns : tie.Need-returns
 unfolding isDate
@@ -39,7 +31,7 @@ month-length-requires : tie.Need-month-length-requires
 month-length-requires c κs = search needs
 
 returns-6 : tie.Need-returns-6
-returns-6 c = last (c .before .before .before .before .before .before .before .before .before .before .before .before .args .d) (c .before .month-length .result) (c .before .before .before .before .before .before .before .before .before .before .if1 .left) (c .before .before .before .before .before .before .before .before .if2 .left) (c .before .before .before .before .before .before .if3 .left) (c .before .before .before .before .if4 .left) (c .before .before .if5 .left) (c .before .month-length .ensures)
+returns-6 c = by-length (c .before .before .before .before .before .before .before .before .before .before .before .before .args .d) (c .before .month-length .result) (c .before .before .before .before .before .before .before .before .before .before .if1 .left) (c .before .before .before .before .before .before .before .before .if2 .left) (c .before .before .before .before .before .before .if3 .left) (c .before .before .before .before .if4 .left) (c .before .before .if5 .left) (c .before .month-length .ensures)
 
 pub is-date-spec : {M : Type 1} → statement M
 is-date-spec =

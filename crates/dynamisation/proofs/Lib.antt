@@ -1,0 +1,3 @@
+pub mod Days
+pub mod Rounding
+pub mod Whole

@@ -1,0 +1,2 @@
+pub mod Dynamisation
+pub mod Rounding
