@@ -1,0 +1,50 @@
+-- `day_enquiry::main` is safe and ends: i stays within the list of dates, and rises with each turn. Assumes nothing.
+use Prim.Native.Nat.{_-_, _≤_}
+use borrow.Author.Needs.{needs}
+use Rattle.day_enquiry.proofs.main.Statement.{statement}
+use Rattle.day_enquiry.proofs.main.Tie as tie
+
+abbrev Inv-loop : tie.InvT-loop
+Inv-loop i₀ i = i ≤ 18
+
+abbrev μ-loop : tie.MeasureT-loop
+μ-loop i₀ i = 18 - i
+
+loop-holds : tie.Need-loop-holds Inv-loop μ-loop
+loop-holds c = search needs
+
+mul-write-answer : tie.Need-mul-write-answer Inv-loop μ-loop
+mul-write-answer c = search needs
+
+array-read-write-answer : tie.Need-array-read-write-answer Inv-loop μ-loop
+array-read-write-answer c = search needs
+
+write-answer-requires : tie.Need-write-answer-requires Inv-loop μ-loop
+write-answer-requires c κs = search needs
+
+add-i : tie.Need-add-i Inv-loop μ-loop
+add-i c = search needs
+
+loop-less : tie.Need-loop-less Inv-loop μ-loop
+loop-less c = search needs
+
+loop-again : tie.Need-loop-again Inv-loop μ-loop
+loop-again c = search needs
+
+returns : tie.Need-returns Inv-loop μ-loop
+returns c = search needs
+
+pub main-spec : {M : Type 1} → statement M
+main-spec =
+    tie.close
+    (tie.spec
+    Inv-loop
+    μ-loop
+    loop-holds
+    mul-write-answer
+    array-read-write-answer
+    write-answer-requires
+    add-i
+    loop-less
+    loop-again
+    returns)

@@ -1,0 +1,52 @@
+-- Document 01, "Marked days and figures", in its order. What needs the series joins with expanding.
+-- Assumes nothing.
+use mathlib.Core.Path.{_≡_}
+use mathlib.Core.List.{[]}
+use Prim.Native.Nat.{ℕ}
+use lib.IntN.{pos}
+use Rattle.calendar.specs.declared.days.Season.{Season}
+use Rattle.calendar.specs.declared.days.DayType.{DayType}
+use Rattle.calendar.specs.Dates.{dateOf, dayOfYear, weekdayOf}
+use Rattle.calendar.specs.Days.{season, dayType, valueCount}
+use Rattle.dynamisation.specs.Dynamisation.{X, F, Q}
+
+-- "X and F" of the households, group code 0
+pub record Factor (t x f : ℕ) : Type 0 where
+  pub exact : X 0 t ≡ pos x
+  pub rounded : F 0 t ≡ f
+
+-- a date's season, in every year
+abbrev pub InSeason : ℕ → ℕ → Season → Type 0
+InSeason month day s = (year : ℕ) → season (record { year = year; month = month; day = day }) ≡ s
+
+-- a date's weekday, season and day type without a list
+pub record DayIs (date weekday : ℕ) (s : Season) (d : DayType) : Type 0 where
+  pub isWeekday : weekdayOf (dateOf date) ≡ weekday
+  pub isSeason : season (dateOf date) ≡ s
+  pub isDayType : dayType (dateOf date) [] ≡ d
+
+pub record MarkedFigures : Type 0 where
+  pub t-1 : Factor 1 1_242_030_119_608 12_420
+  pub t-202 : Factor 202 784_662_924_928 7_847
+  pub t-365 : Factor 365 1_257_215_955_000 12_572
+  pub t-366 : Factor 366 1_259_685_225_088 12_597
+  -- "H0, t = 1, P = 250: Q = 311 (a half goes up)"
+  pub halfUp : Q 250 (F 0 1) ≡ 311
+  -- "20 and 21 March: W, T. 14 and 15 May: T, S. 14 and 15 September: S, T. 31 October and 1 November: T, W."
+  pub march-20 : InSeason 3 20 Season.Winter
+  pub march-21 : InSeason 3 21 Season.Transition
+  pub may-14 : InSeason 5 14 Season.Transition
+  pub may-15 : InSeason 5 15 Season.Summer
+  pub september-14 : InSeason 9 14 Season.Summer
+  pub september-15 : InSeason 9 15 Season.Transition
+  pub october-31 : InSeason 10 31 Season.Transition
+  pub november-1 : InSeason 11 1 Season.Winter
+  -- "29 February 2000: Tuesday, t = 60."
+  pub leapDay : weekdayOf (dateOf 20000229) ≡ 2
+  pub leapDay-t : dayOfYear (dateOf 20000229) ≡ 60
+  -- "24 December 1999 (Friday): W2. 31 December 2000 (Sunday): W3."
+  pub christmasEve : DayIs 19991224 5 Season.Winter DayType.Saturday
+  pub yearEnd : DayIs 20001231 7 Season.Winter DayType.Sunday
+  -- "26 March 2000: 92 values. 29 October 2000: 100."
+  pub clockForward : valueCount (dateOf 20000326) ≡ 92
+  pub clockBack : valueCount (dateOf 20001029) ≡ 100
