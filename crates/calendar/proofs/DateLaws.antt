@@ -10,7 +10,7 @@ use native.Mathlib.Numerals.{add-one}
 use borrow.Author.Tests.{le-leb, leb-true, eqb-true, eqb-false}
 use lib.Dec.{leb, eqb}
 use lib.ListN.{length, getD}
-use Rattle.refusal.proofs.Laws.{and-left, and-right}
+use Rattle.refusal.proofs.Laws.{both}
 use Rattle.calendar.specs.declared.dates.Date.{Date}
 use Rattle.calendar.specs.Dates.{dateOf, monthLengths, leapDays, monthLength, isDate, daysOfMonths, dayOfYear, daysOfYears}
 
@@ -22,8 +22,8 @@ all-small limit (x ∷ xs) = leb x limit && all-small limit xs
 entry-small : (limit : ℕ) (xs : List ℕ) → all-small limit xs ≡ true → (i : ℕ) → getD xs i 0 ≤ limit
 unfolding all-small
 entry-small limit [] h i = omega arith
-entry-small limit (x ∷ xs) h zero = leb-true x limit (and-left (leb x limit) (all-small limit xs) h)
-entry-small limit (x ∷ xs) h (suc i) = entry-small limit xs (and-right (leb x limit) (all-small limit xs) h) i
+entry-small limit (x ∷ xs) h zero = leb-true x limit (both (leb x limit) (all-small limit xs) h .0)
+entry-small limit (x ∷ xs) h (suc i) = entry-small limit xs (both (leb x limit) (all-small limit xs) h .1) i
 
 pub table-small : (i : ℕ) → getD monthLengths i 0 ≤ 31
 unfolding all-small
@@ -53,9 +53,9 @@ all-large limit (x ∷ xs) = leb limit x && all-large limit xs
 entry-large : (limit : ℕ) (xs : List ℕ) → all-large limit xs ≡ true → (i : ℕ) → i < length xs → limit ≤ getD xs i 0
 unfolding all-large
 entry-large limit [] h i l = absurd (omega arith)
-entry-large limit (x ∷ xs) h zero l = leb-true limit x (and-left (leb limit x) (all-large limit xs) h)
+entry-large limit (x ∷ xs) h zero l = leb-true limit x (both (leb limit x) (all-large limit xs) h .0)
 entry-large limit (x ∷ xs) h (suc i) l =
-    entry-large limit xs (and-right (leb limit x) (all-large limit xs) h) i (omega arith)
+    entry-large limit xs (both (leb limit x) (all-large limit xs) h .1) i (omega arith)
 
 pub month-large : (year month : ℕ) → 1 ≤ month → month ≤ 12 → 28 ≤ monthLength year month
 unfolding monthLength all-large
@@ -80,17 +80,18 @@ parts d h =
     let f = leb (d .month) 12 in
     let g = leb 1 (d .day) in
     let l = monthLength (d .year) (d .month) in
-    let h5 = and-left (a && b && e && f && g) (leb (d .day) l) h in
-    let h4 = and-left (a && b && e && f) g h5 in
-    let h3 = and-left (a && b && e) f h4 in
-    let h2 = and-left (a && b) e h3 in
-    let day-to : d .day ≤ l = leb-true (d .day) l (and-right (a && b && e && f && g) (leb (d .day) l) h) in
+    let all = both (a && b && e && f && g) (leb (d .day) l) h in
+    let day = both (a && b && e && f) g (all .0) in
+    let month = both (a && b && e) f (day .0) in
+    let first = both (a && b) e (month .0) in
+    let year = both a b (first .0) in
+    let day-to : d .day ≤ l = leb-true (d .day) l (all .1) in
     record {
-      year-from = leb-true 1996 (d .year) (and-left a b h2);
-      year-to = leb-true (d .year) 2099 (and-right a b h2);
-      month-from = leb-true 1 (d .month) (and-right (a && b) e h3);
-      month-to = leb-true (d .month) 12 (and-right (a && b && e) f h4);
-      day-from = leb-true 1 (d .day) (and-right (a && b && e && f) g h5);
+      year-from = leb-true 1996 (d .year) (year .0);
+      year-to = leb-true (d .year) 2099 (year .1);
+      month-from = leb-true 1 (d .month) (first .1);
+      month-to = leb-true (d .month) 12 (month .1);
+      day-from = leb-true 1 (d .day) (day .1);
       day-to = day-to;
       day-small = omega (arith, month-small (d .year) (d .month));
     }

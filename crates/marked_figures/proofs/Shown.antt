@@ -28,5 +28,5 @@ marked-figures =
       christmasEve = record { isWeekday = refl; isSeason = refl; isDayType = refl };
       yearEnd = record { isWeekday = refl; isSeason = refl; isDayType = refl };
       clockForward = refl;
-      clockBack = refl
+      clockBack = refl;
     }

@@ -4,11 +4,10 @@ use mathlib.Core.Path.{_≡_, sym, _∙_, ap}
 use mathlib.Core.Bool.{true}
 use mathlib.Core.List.{List}
 use Prim.Native.Nat.{ℕ}
-use native.Mathlib.Omega.{arith}
 use Rattle.refusal.specs.declared.Refusal.the-variants.{BadDate}
 use Rattle.refusal.specs.declared.Verdict.{Verdict}
 use Rattle.refusal.specs.declared.Verdict.the-variants.{Pass, Refused}
-use Rattle.refusal.proofs.Laws.{IsRefused, IsPass, passed, ask-passed, then-pass, then-refused}
+use Rattle.refusal.proofs.Laws.{IsRefused, IsPass, passed-not-refused, passed, ask-passed, then-pass, then-refused}
 use Rattle.calendar.specs.declared.dates.Date.{Date}
 use Rattle.calendar.specs.declared.enquiry.Day.{Day}
 use Rattle.calendar.specs.declared.enquiry.DayAnswer.{DayAnswer}
@@ -29,7 +28,7 @@ second-asked date holidays v w e h f = then-pass (holidaysQuestion holidays) (sy
 -- a refused check answers its refusal, a passed one the description
 refused : (date : ℕ) (holidays : List ℕ) (v : Verdict) → dayCheck date holidays ≡ v → IsRefused v → DayAnswer.Refused v ≡ dayEnquiry date holidays
 unfolding dayEnquiry
-refused date holidays Pass e h = let z : _≡_ {A = ℕ} 0 1 = h in absurd (omega arith)
+refused date holidays Pass e h = passed-not-refused h
 refused date holidays (Refused r) e h = rw e
 
 described : (date : ℕ) (holidays : List ℕ) (d : Date) (day : Day) → dayCheck date holidays ≡ Pass → d ≡ dateOf date → day ≡ describe d holidays → DayAnswer.Described day ≡ dayEnquiry date holidays
