@@ -1,0 +1,7 @@
+pub mod Accepted
+pub mod Answers
+pub mod Finding
+pub mod Locating
+pub mod Strides
+pub mod Tables
+pub mod Words

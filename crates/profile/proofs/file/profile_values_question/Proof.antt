@@ -1,0 +1,83 @@
+-- `file::profile_values_question` meets its contract. The loop's invariant: what is left to ask is all that counts, and it is in
+-- the file. The measure is how many values are left. Assumes nothing.
+use mathlib.Core.Path.{_≡_, refl, sym, _∙_}
+use Prim.Native.Nat.{_+_, _*_, _≤_}
+use native.Mathlib.Omega.{arith}
+use lib.ListN.{length}
+use borrow.Author.Needs.{needs}
+use Rattle.refusal.specs.Verdict.{askEach}
+use Rattle.refusal.proofs.Laws.{each-done, each-next, each-refused}
+use Rattle.profile.specs.File.{valueQuestion, profileValuesQuestion}
+use Rattle.profile.proofs.file.profile_values_question.Statement.{statement}
+use Rattle.profile.proofs.file.profile_values_question.Tie as tie
+
+abbrev Inv-loop : tie.InvT-loop
+Inv-loop file at left₀ at₀ left at' =
+    (askEach (valueQuestion file) 2 left at' ≡ askEach (valueQuestion file) 2 left₀ at₀) × (at' + left * 2 ≤ length file)
+
+abbrev μ-loop : tie.MeasureT-loop
+μ-loop file at left₀ at₀ left at' = left
+
+add-at : tie.Need-add-at Inv-loop μ-loop
+add-at c = omega arith
+
+loop-holds : tie.Need-loop-holds Inv-loop μ-loop
+loop-holds c = (refl, omega arith)
+
+value-question-requires : tie.Need-value-question-requires Inv-loop μ-loop
+value-question-requires c κs = omega arith
+
+enum-told : tie.Need-enum-told Inv-loop μ-loop
+enum-told c = search needs
+
+enum-told-2 : tie.Need-enum-told-2 Inv-loop μ-loop
+enum-told-2 c = search needs
+
+returns : tie.Need-returns Inv-loop μ-loop
+unfolding profileValuesQuestion
+returns c =
+    let l = c .before .before .before .before .loop in
+    sym (each-refused (valueQuestion _) 2 (l .left) (l .at) (omega arith) (c .before .before .value-question .ensures) (search needs)) ∙ l .inv .0
+
+add-at-2 : tie.Need-add-at-2 Inv-loop μ-loop
+add-at-2 c = omega arith
+
+sub-left : tie.Need-sub-left Inv-loop μ-loop
+sub-left c = omega arith
+
+loop-less : tie.Need-loop-less Inv-loop μ-loop
+loop-less c = omega arith
+
+loop-again : tie.Need-loop-again Inv-loop μ-loop
+loop-again c =
+    let l = c .before .before .before .before .loop in (
+      sym
+          (each-next (valueQuestion _) 2 (l .left) (l .at) (omega arith)
+          (sym (c .before .before .value-question .ensures) ∙ c .enum-told .given .1))
+          ∙ l .inv .0,
+      omega arith,
+    )
+
+returns-2 : tie.Need-returns-2 Inv-loop μ-loop
+unfolding profileValuesQuestion
+returns-2 c =
+    let l = c .before .loop in
+    sym (each-done (valueQuestion _) 2 (l .left) (l .at) (omega arith)) ∙ l .inv .0
+
+pub profile-values-question-spec : {M : Type 1} → statement M
+profile-values-question-spec =
+    tie.close
+    (tie.spec
+    Inv-loop
+    μ-loop
+    add-at
+    loop-holds
+    value-question-requires
+    enum-told
+    enum-told-2
+    returns
+    add-at-2
+    sub-left
+    loop-less
+    loop-again
+    returns-2)

@@ -1,0 +1,3 @@
+pub mod File
+pub mod Calls
+pub mod Inside

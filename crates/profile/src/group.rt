@@ -1,0 +1,69 @@
+// Question 6: the check of a wanted group, and locating its values in the lent file.
+use crate::file::Found;
+use refusal::Refusal;
+use refusal::Verdict;
+ghost use mathlib.Core.Path.{_≡_};
+ghost use Prim.Native.Nat.{_+_, _≤_};
+ghost use lib.ListN.{length};
+ghost use Rattle.profile.specs.File.{layoutOf, profileLength, groupIn, check};
+ghost use Rattle.profile.specs.Calls.{Located};
+ghost use Rattle.profile.specs.Inside.{LaidOut, ValuesOf};
+
+// Where the group's code stands, in a file of the length that its header says.
+pub fn find(file: &[u8], group: u8) -> Found
+    requires { ⌜ LaidOut (layoutOf (now file)) (now file) ⌝ }
+    ensures { λ r. ⌜ r ≡ groupIn (now (file .entry)) group ⌝ }
+{
+    let layout = crate::file::layout_of(file);
+    let step = crate::file::profile_length(layout);
+    let mut left = layout.count;
+    let mut at = crate::file::HEADER_LENGTH;
+    while 0 < left {
+        if file[at] == group {
+            return Found::At(at);
+        }
+        at += step;
+        left -= 1;
+    }
+    Found::Nothing
+}
+
+// The check beside locating: questions 1 to 6.
+pub fn check(file: &[u8], group: u8) -> Verdict
+    ensures { λ r. ⌜ r ≡ check (now (file .entry)) group ⌝ }
+{
+    let v = crate::file::check_file(file);
+    let Verdict::Pass = v else {
+        return v;
+    };
+    let Found::At(_) = find(file, group) else {
+        return Verdict::Refused(Refusal::NoGroup(0));
+    };
+    Verdict::Pass
+}
+
+// The value bytes of the profile whose code stands at `at`.
+pub fn values_of(file: &[u8], at: usize) -> &[u8]
+    requires { ⌜ LaidOut (layoutOf (now file)) (now file) ⌝ }
+    requires { ⌜ at + profileLength (layoutOf (now file)) ≤ length (now file) ⌝ }
+    ensures { λ r. ⌜ ValuesOf (file .entry) at r ⌝ }
+{
+    let layout = crate::file::layout_of(file);
+    let start = at + layout.before;
+    let end = start + layout.values * 2;
+    &file[start..end]
+}
+
+// The group's own value bytes, as that part of the lent file; on a refusal the part of length zero at its start.
+pub fn locate(file: &[u8], group: u8) -> &[u8]
+    ensures { λ r. ⌜ Located (file .entry) group r ⌝ }
+{
+    let nothing = &file[0..0];
+    let Verdict::Pass = crate::file::check_file(file) else {
+        return nothing;
+    };
+    let Found::At(at) = find(file, group) else {
+        return nothing;
+    };
+    values_of(file, at)
+}

@@ -1,0 +1,6 @@
+pub mod Places
+pub mod Asked
+pub mod Passed
+pub mod Stores
+pub mod Reading
+pub mod RoundTrip
