@@ -1,7 +1,7 @@
 -- What a file that passed its questions tells, by name: the facts that callers of the reader need.
 -- Each question that passed is turned back into the facts that it asks. Assumes nothing.
 use mathlib.Core.Path.{_≡_}
-use mathlib.Core.Bool.{_&&_, _||_}
+use mathlib.Core.Bool.{_||_}
 use mathlib.Core.List.{List}
 use Prim.Native.Nat.{ℕ, _+_, _-_, _*_, _≤_, _<_}
 use native.Mathlib.Omega.{arith}
@@ -9,7 +9,7 @@ use lib.Dec.{leb, ltb, eqb}
 use lib.ListN.{length}
 use borrow.Author.Tests.{leb-true, ltb-true, eqb-true, ne-eqb}
 use Rattle.refusal.specs.declared.Verdict.the-variants.{Pass}
-use Rattle.refusal.specs.declared.Refusal.the-variants.{NoMark, WrongLength, BadCode, BadValue}
+use Rattle.refusal.specs.declared.Refusal.the-variants.{NoMark, WrongVersion, WrongLength, BadCode, BadValue}
 use Rattle.refusal.proofs.Laws.{ask-passed, then-first, then-next, each-passed, both}
 use Rattle.profile.specs.File.{byteAt, wordAt, mark, headerLength, layoutOf, profileLength, markQuestion, versionQuestion, lengthQuestion, headerCheck, codeQuestion, codesQuestion, valueQuestion, profileValuesQuestion, valuesQuestion, fileCheck}
 use Rattle.profile.specs.declared.file.Layout.{Layout}
@@ -19,6 +19,10 @@ use Rattle.profile.proofs.Strides.{stride}
 -- questions 1 to 3 passed
 pub record Headed (file : List ℕ) : Type 0 where
   pub header : headerLength ≤ length file
+  pub letter0 : byteAt file 0 ≡ byteAt mark 0
+  pub letter1 : byteAt file 1 ≡ byteAt mark 1
+  pub letter2 : byteAt file 2 ≡ byteAt mark 2
+  pub version : wordAt file 3 ≡ 1
   pub some : 1 ≤ layoutOf file .count
   pub most : layoutOf file .count ≤ 11
   pub laid : LaidOut (layoutOf file) file
@@ -33,25 +37,42 @@ pub sound : (file : List ℕ) → Sound (layoutOf file)
 unfolding layoutOf
 sound file = record { coded = omega arith; small = omega arith }
 
-pub header-long : (file : List ℕ) → markQuestion file ≡ Pass → headerLength ≤ length file
+-- question 1 passed
+record Marked (file : List ℕ) : Type 0 where
+  long : headerLength ≤ length file
+  letter0 : byteAt file 0 ≡ byteAt mark 0
+  letter1 : byteAt file 1 ≡ byteAt mark 1
+  letter2 : byteAt file 2 ≡ byteAt mark 2
+
+marked : (file : List ℕ) → markQuestion file ≡ Pass → Marked file
 unfolding markQuestion
-header-long file h =
-    leb-true _ _
-    (both (leb headerLength (length file)) _
-    (both (leb headerLength (length file) && eqb (byteAt file 0) (byteAt mark 0)) _
-    (both (leb headerLength (length file) && eqb (byteAt file 0) (byteAt mark 0) && eqb (byteAt file 1) (byteAt mark 1)) _
-    (ask-passed _ NoMark h) .0) .0) .0)
+marked file h =
+    let all = both _ _ (ask-passed _ NoMark h) in
+    let two = both _ _ (all .0) in
+    let one = both _ _ (two .0) in
+    record {
+      long = leb-true _ _ (one .0);
+      letter0 = eqb-true _ _ (one .1);
+      letter1 = eqb-true _ _ (two .1);
+      letter2 = eqb-true _ _ (all .1);
+    }
+
+pub header-long : (file : List ℕ) → markQuestion file ≡ Pass → headerLength ≤ length file
+header-long file h = marked file h .long
 
 pub headed : (file : List ℕ) → headerCheck file ≡ Pass → Headed file
-unfolding headerCheck lengthQuestion
+unfolding headerCheck versionQuestion lengthQuestion
 headed file h =
-    let layout = layoutOf file in
+    let letters = marked file (then-first (markQuestion file) _ h) in
     let rest = then-next (markQuestion file) _ h in
-    let length-passed = ask-passed _ WrongLength (then-next (versionQuestion file) _ rest) in
-    let counted = both (leb 1 (layout .count) && leb (layout .count) 11) _ length-passed in
-    let ends = both (leb 1 (layout .count)) _ (counted .0) in
+    let counted = both _ _ (ask-passed _ WrongLength (then-next (versionQuestion file) _ rest)) in
+    let ends = both _ _ (counted .0) in
     record {
-      header = header-long file (then-first (markQuestion file) _ h);
+      header = letters .long;
+      letter0 = letters .letter0;
+      letter1 = letters .letter1;
+      letter2 = letters .letter2;
+      version = eqb-true _ _ (ask-passed _ WrongVersion (then-first (versionQuestion file) _ rest));
       some = leb-true _ _ (ends .0);
       most = leb-true _ _ (ends .1);
       laid = record { sound = sound file; whole = eqb-true _ _ (counted .1) };

@@ -1,5 +1,6 @@
 pub mod Accepted
 pub mod Answers
+pub mod Codes
 pub mod Finding
 pub mod Locating
 pub mod Strides

@@ -21,7 +21,9 @@ use Rattle.writing.specs.Writing.{bytesOf, profilesOf, written, roomQues
 use Rattle.writing.specs.RoundTrip.{Below, WrittenReadsBack, AcceptedIsRewritten, codesFrom, valuesFrom, codesOf, valuesOf}
 use Rattle.writing.proofs.Passed.{Amounts, amount-passes, Writable, writable}
 use Rattle.writing.proofs.Places.{length-written, code-at, values-at}
-use Rattle.writing.proofs.Reading.{Accepted, accepted, finds}
+use Rattle.profile.proofs.Accepted.{Accepted, accepted}
+use Rattle.profile.proofs.Codes.{finds}
+use Rattle.profile.proofs.Words.{length-words}
 
 -- ---- what was written reads back
 
@@ -63,7 +65,7 @@ module _ (codes values : List ℕ) (room : ℕ) (w : Writable codes values room)
 
 pub written-reads-back : WrittenReadsBack
 unfolding WrittenReadsBack groupQuestion layoutOf
-written-reads-back codes values room cs vs pass i h =
+written-reads-back codes values room pass i h =
     let w = writable codes values room pass in
     let at = found codes values room w i h in (
       then-pass _ (file-passes codes values room w) ∙ ask-yes (NoGroup 0) (ap isFound at),
@@ -72,11 +74,6 @@ written-reads-back codes values room cs vs pass i h =
     )
 
 -- ---- an accepted file is rewritten to the same bytes
-
-length-words : (file : List ℕ) (n at : ℕ) → length (wordsFrom file n at) ≡ n
-unfolding wordsFrom
-length-words file zero at = refl
-length-words file (suc n) at = ap suc (length-words file n (at + 2))
 
 module _ (layout : Layout) (file : List ℕ) where
   length-codes : (n at : ℕ) → length (codesFrom layout file n at) ≡ n
@@ -147,18 +144,18 @@ module _ (file : List ℕ) (bytes : Below 256 file) where
   rewritten : Accepted file → written (codesOf file) (valuesOf file) ≡ file
   unfolding written bytesOf layoutOf
   rewritten a =
-      let high : byteAt file 3 ≡ 0 = omega (arith, a .version, bytes 4 (omega (arith, a .header))) in
-      let low : byteAt file 4 ≡ 1 = omega (arith, a .version) in
-      rw (length-codes (layoutOf file) file (byteAt file 5) 6, profiles-back (layoutOf file) refl (byteAt file 5) 6 (sym (a .whole)))
-      (rw (a .mark0, a .mark1, a .mark2, high, low) at (headed (a .header)))
+      let high : byteAt file 3 ≡ 0 = omega (arith, a .headed .version, bytes 4 (omega (arith, a .headed .header))) in
+      let low : byteAt file 4 ≡ 1 = omega (arith, a .headed .version) in
+      rw (length-codes (layoutOf file) file (byteAt file 5) 6, profiles-back (layoutOf file) refl (byteAt file 5) 6 (sym (a .headed .laid .whole)))
+      (rw (a .headed .letter0, a .headed .letter1, a .headed .letter2, high, low) at (headed (a .headed .header)))
 
   amounts-of : Accepted file → Amounts (codesOf file) (valuesOf file)
   unfolding layoutOf
   amounts-of a =
       let count : length (codesOf file) ≡ byteAt file 5 = length-codes (layoutOf file) file (byteAt file 5) 6 in
       record {
-        some = rw count (a .some);
-        most = rw count (a .most);
+        some = rw count (a .headed .some);
+        most = rw count (a .headed .most);
         each = length-values (layoutOf file) file (byteAt file 5) 6 ∙ sym (ap (λ (n : ℕ). n * 864) count);
       }
 
@@ -169,8 +166,8 @@ accepted-is-rewritten file bytes pass room long =
     let same : written (codesOf file) (valuesOf file) ≡ file = rewritten file bytes a in (
       rw same
           (then-pass _ (amount-passes (codesOf file) (valuesOf file) (amounts-of file bytes a))
-          ∙ then-pass _ (a .codesPass)
-          ∙ then-pass _ (a .valuesPass)
+          ∙ then-pass _ (a .codes)
+          ∙ then-pass _ (a .values)
           ∙ ask-yes (ShortOutput (length file)) (le-leb (length file) room (omega arith))),
       same,
     )

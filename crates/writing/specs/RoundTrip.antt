@@ -10,14 +10,14 @@ use Rattle.profile.specs.declared.file.Layout.{Layout}
 use Rattle.profile.specs.File.{byteAt, layoutOf, headerLength, profileLength, fileCheck, check, wordsFrom, tableOf}
 use Rattle.writing.specs.Writing.{written, writeCheck}
 
--- every element of a list is below a limit: a list of bytes, or of 16-bit numbers
+-- every element of a list is below a limit: 256 for a list of bytes
 abbrev pub Below : ℕ → List ℕ → Type 0
 Below limit xs = (i : ℕ) → i < length xs → getD xs i 0 < limit
 
 -- what writing makes of an accepted writing is an accepted file, and reading each of its groups gives that group's values
 unfoldable pub WrittenReadsBack : Type 0
 WrittenReadsBack =
-    (codes values : List ℕ) (room : ℕ) → Below 256 codes → Below 65536 values → writeCheck codes values room ≡ Pass →
+    (codes values : List ℕ) (room : ℕ) → writeCheck codes values room ≡ Pass →
     (i : ℕ) → i < length codes →
     (check (written codes values) (getD codes i 0) ≡ Pass)
     × (tableOf (written codes values) (getD codes i 0) ≡ take 864 (drop (i * 864) values))

@@ -1,58 +1,20 @@
-use Rattle.refusal.proofs.Laws.{ask-passed, then-first, then-next, both}
--- What the reader's definitions tell of a file that passed: its header by name, and that each of its groups is found where
--- it stands, since codes rise strictly. Assumes nothing.
+-- Codes rise strictly through a file that passed question 4, so each group is found where its code stands.
+-- Assumes nothing.
 use mathlib.Core.Path.{_≡_, refl}
 use mathlib.Core.Bool.{Bool, true, false, _||_}
 use mathlib.Core.List.{List}
 use Prim.Native.Nat.{ℕ, zero, suc, _+_, _-_, _*_, _≤_, _<_}
 use native.Mathlib.Nat.{suc-mul}
 use native.Mathlib.Omega.{arith}
-use borrow.Author.Tests.{leb-true, ltb-true, eqb-true, eq-eqb, ne-eqb}
+use borrow.Author.Tests.{ltb-true, eq-eqb, ne-eqb}
 use lib.Dec.{leb, ltb, eqb}
-use lib.ListN.{length}
-use Rattle.refusal.specs.declared.Refusal.the-variants.{NoMark, WrongVersion, WrongLength, BadCode}
+use Rattle.refusal.specs.declared.Refusal.the-variants.{BadCode}
 use Rattle.refusal.specs.declared.Verdict.the-variants.{Pass}
 use Rattle.refusal.specs.Verdict.{askEach}
+use Rattle.refusal.proofs.Laws.{ask-passed, then-first, then-next, both}
 use Rattle.profile.specs.declared.file.Layout.{Layout}
 use Rattle.profile.specs.declared.file.Found.the-variants.{At}
-use Rattle.profile.specs.File.{byteAt, wordAt, layoutOf, profileLength, markQuestion, versionQuestion, lengthQuestion, headerCheck, codeQuestion, codesQuestion, valuesQuestion, fileCheck, findAmong}
-
--- questions 1 to 5 passed
-pub record Accepted (file : List ℕ) : Type 0 where
-  pub header : 6 ≤ length file
-  pub mark0 : byteAt file 0 ≡ 83
-  pub mark1 : byteAt file 1 ≡ 76
-  pub mark2 : byteAt file 2 ≡ 80
-  pub version : wordAt file 3 ≡ 1
-  pub some : 1 ≤ byteAt file 5
-  pub most : byteAt file 5 ≤ 11
-  pub whole : length file ≡ 6 + byteAt file 5 * 1729
-  pub codesPass : codesQuestion (layoutOf file) file ≡ Pass
-  pub valuesPass : valuesQuestion (layoutOf file) file ≡ Pass
-
-pub accepted : (file : List ℕ) → fileCheck file ≡ Pass → Accepted file
-unfolding fileCheck headerCheck markQuestion versionQuestion lengthQuestion layoutOf
-accepted file h =
-    let heads = then-first (headerCheck file) _ h in
-    let after3 = then-next (headerCheck file) _ h in
-    let after1 = then-next (markQuestion file) _ heads in
-    let b2 = both _ _ (ask-passed _ NoMark (then-first (markQuestion file) _ heads)) in
-    let b1 = both _ _ (b2 .0) in
-    let b0 = both _ _ (b1 .0) in
-    let l2 = both _ _ (ask-passed _ WrongLength (then-next (versionQuestion file) _ after1)) in
-    let l1 = both _ _ (l2 .0) in
-    record {
-      header = leb-true _ _ (b0 .0);
-      mark0 = eqb-true _ _ (b0 .1);
-      mark1 = eqb-true _ _ (b1 .1);
-      mark2 = eqb-true _ _ (b2 .1);
-      version = eqb-true _ _ (ask-passed _ WrongVersion (then-first (versionQuestion file) _ after1));
-      some = leb-true _ _ (l1 .0);
-      most = leb-true _ _ (l1 .1);
-      whole = eqb-true _ _ (l2 .1);
-      codesPass = then-first (codesQuestion (layoutOf file) file) _ after3;
-      valuesPass = then-next (codesQuestion (layoutOf file) file) _ after3;
-    }
+use Rattle.profile.specs.File.{byteAt, headerLength, profileLength, codeQuestion, findAmong}
 
 -- either part of a question is so
 second : (a b : Bool) → a ≡ false → (a || b) ≡ true → b ≡ true
@@ -62,19 +24,19 @@ second false b e h = h
 -- the profiles of any layout, one stride apart
 module _ (layout : Layout) (file : List ℕ) (forward : 0 < profileLength layout) where
   -- a code is above the one before it
-  rises : (at : ℕ) → 6 ≤ at → codeQuestion layout file (at + profileLength layout) ≡ Pass →
+  rises : (at : ℕ) → headerLength ≤ at → codeQuestion layout file (at + profileLength layout) ≡ Pass →
       byteAt file at < byteAt file (at + profileLength layout)
   unfolding codeQuestion
   rises at h p =
       let step : ℕ = profileLength layout in
       let back : at + step - step ≡ at = omega arith in
-      let later : eqb (at + step) 6 ≡ false = ne-eqb (at + step) 6 (λ e. omega arith) in
+      let later : eqb (at + step) headerLength ≡ false = ne-eqb (at + step) headerLength (λ e. omega arith) in
       let above : ltb (byteAt file (at + step - step)) (byteAt file (at + step)) ≡ true =
       second _ _ later (both (leb (byteAt file (at + step)) 10) _ (ask-passed _ (BadCode (at + step)) p) .1) in
       ltb-true _ _ (rw back at above)
 
   -- and so above every one before it
-  below-later : (n at i : ℕ) → 6 ≤ at →
+  below-later : (n at i : ℕ) → headerLength ≤ at →
       askEach (codeQuestion layout file) (profileLength layout) n (at + profileLength layout) ≡ Pass → i < n →
       byteAt file at < byteAt file (at + profileLength layout + i * profileLength layout)
   unfolding askEach
@@ -91,7 +53,7 @@ module _ (layout : Layout) (file : List ℕ) (forward : 0 < profileLength layout
       (arith, rises at h (then-first _ _ p), below-later n (at + step) i (omega arith) (then-next (codeQuestion layout file (at + step)) _ p) (omega arith)))
 
   -- a group is found where its code stands
-  pub finds : (n at i : ℕ) → 6 ≤ at → askEach (codeQuestion layout file) (profileLength layout) n at ≡ Pass → i < n →
+  pub finds : (n at i : ℕ) → headerLength ≤ at → askEach (codeQuestion layout file) (profileLength layout) n at ≡ Pass → i < n →
       findAmong layout file (byteAt file (at + i * profileLength layout)) n at ≡ At (at + i * profileLength layout)
   unfolding askEach findAmong
   finds zero at i h p l = absurd (omega arith)
