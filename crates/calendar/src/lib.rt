@@ -1,5 +1,4 @@
-// The calendar (document 01, "Calendar"): dates, seasons, day types, value counts and the day enquiry.
+// The calendar (document 01, "Calendar"): dates, seasons, day types, value counts and the list of holidays.
 pub mod dates;
 pub mod days;
-pub mod enquiry;
 pub mod holidays;

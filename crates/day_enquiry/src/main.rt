@@ -1,8 +1,8 @@
 // The day enquiry of the crate `calendar` at work: for each date below a line with the date, its weekday, t, season with
 // day type, and value count, or the refusal. The file stdout has the lines to expect.
 use calendar::days::Season;
-use calendar::enquiry::Day;
-use calendar::enquiry::DayAnswer;
+use enquiry::Day;
+use enquiry::DayAnswer;
 use libc::STDOUT_FILENO;
 use refusal::Verdict;
 
@@ -53,7 +53,7 @@ fn main() {
 
 // One line.
 fn write_answer(date: u32) {
-    let answer = calendar::enquiry::enquire(date, &HOLIDAYS);
+    let answer = enquiry::enquire(date, &HOLIDAYS);
     match answer {
         DayAnswer::Described(day) => write_day(date, day),
         DayAnswer::Refused(v) => write_refusal(v),
@@ -68,7 +68,7 @@ fn write_day(date: u32, day: Day) {
     write_next(day.weekday);
     write_next(day.t);
     io::write_all(STDOUT_FILENO, &[b' ', season_letter(season)]);
-    write_number(calendar::enquiry::day_type_figure(day_type));
+    write_number(enquiry::day_type_figure(day_type));
     write_next(day.values);
 }
 

@@ -51,7 +51,7 @@ fn compare(year: u32, t: u32, weekday: u32) -> u32
 // What `calendar` answers.
 fn enquired(date: u32) -> Figures {
     let holidays: [u32; 0] = [];
-    let r = calendar::enquiry::report(calendar::enquiry::enquire(date, &holidays));
+    let r = enquiry::report(enquiry::enquire(date, &holidays));
     Figures {
         number: r.number,
         place: r.place,

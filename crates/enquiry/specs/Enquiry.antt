@@ -4,15 +4,15 @@ use mathlib.Core.List.{List}
 use Prim.Native.Nat.{ℕ}
 use Rattle.refusal.specs.declared.Verdict.{Verdict}
 use Rattle.refusal.specs.Verdict.{_then_, number, place}
 use Rattle.calendar.specs.declared.dates.Date.{Date}
 use Rattle.calendar.specs.declared.days.Season.{Season}
 use Rattle.calendar.specs.declared.days.DayType.{DayType}
-use Rattle.calendar.specs.declared.enquiry.Day.{Day}
-use Rattle.calendar.specs.declared.enquiry.DayAnswer.{DayAnswer}
-use Rattle.calendar.specs.declared.enquiry.DayReport.{DayReport}
+use Rattle.enquiry.specs.declared.Day.{Day}
+use Rattle.enquiry.specs.declared.DayAnswer.{DayAnswer}
+use Rattle.enquiry.specs.declared.DayReport.{DayReport}
 use Rattle.calendar.specs.Dates.{dateOf, dayOfYear, weekdayOf}
 use Rattle.calendar.specs.Days.{season, dayType, valueCount}
 use Rattle.calendar.specs.Holidays.{dateQuestion, holidaysQuestion}
 
 -- what the enquiry says of a date
 abbrev pub describe : Date → List ℕ → Day

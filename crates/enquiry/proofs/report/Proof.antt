@@ -1,8 +1,8 @@
--- `calendar::enquiry::report` meets its contract: each case of the answer has its own report.
+-- `enquiry::report` meets its contract: each case of the answer has its own report.
 -- Assumes nothing.
 use borrow.Author.Needs.{needs}
-use Rattle.calendar.proofs.enquiry.report.Statement.{statement}
-use Rattle.calendar.proofs.enquiry.report.Tie as tie
+use Rattle.enquiry.proofs.report.Statement.{statement}
+use Rattle.enquiry.proofs.report.Tie as tie
 
 enum-known-answer : tie.Need-enum-known-answer
 enum-known-answer c = search needs

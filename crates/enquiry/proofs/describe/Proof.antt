@@ -1,8 +1,8 @@
--- `calendar::enquiry::describe` meets its contract: each field is what its function answers.
+-- `enquiry::describe` meets its contract: each field is what its function answers.
 -- Assumes nothing.
 use borrow.Author.Needs.{needs}
-use Rattle.calendar.proofs.enquiry.describe.Statement.{statement}
-use Rattle.calendar.proofs.enquiry.describe.Tie as tie
+use Rattle.enquiry.proofs.describe.Statement.{statement}
+use Rattle.enquiry.proofs.describe.Tie as tie
 
 weekday-of-requires : tie.Need-weekday-of-requires
 weekday-of-requires c κs = search needs

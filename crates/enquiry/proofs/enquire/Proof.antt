@@ -1,4 +1,4 @@
--- `calendar::enquiry::enquire` meets its contract: the questions in order, each refusal passed on.
+-- `enquiry::enquire` meets its contract: the questions in order, each refusal passed on.
 -- Assumes nothing.
 use mathlib.Core.Path.{_≡_, sym, _∙_, ap}
 use mathlib.Core.Bool.{true}
@@ -8,15 +8,15 @@ use Rattle.refusal.specs.declared.Refusal.the-variants.{BadDate}
 use Rattle.refusal.specs.declared.Verdict.{Verdict}
 use Rattle.refusal.specs.declared.Verdict.the-variants.{Pass, Refused}
 use Rattle.refusal.proofs.Laws.{IsRefused, IsPass, passed-not-refused, passed, ask-passed, then-pass, then-refused}
 use Rattle.calendar.specs.declared.dates.Date.{Date}
-use Rattle.calendar.specs.declared.enquiry.Day.{Day}
-use Rattle.calendar.specs.declared.enquiry.DayAnswer.{DayAnswer}
+use Rattle.enquiry.specs.declared.Day.{Day}
+use Rattle.enquiry.specs.declared.DayAnswer.{DayAnswer}
 use Rattle.calendar.specs.Dates.{dateOf, isDate}
 use Rattle.calendar.specs.Holidays.{dateQuestion, holidaysQuestion}
-use Rattle.calendar.specs.Enquiry.{describe, dayCheck, dayEnquiry}
+use Rattle.enquiry.specs.Enquiry.{describe, dayCheck, dayEnquiry}
 use borrow.Author.Needs.{needs}
-use Rattle.calendar.proofs.enquiry.enquire.Statement.{statement}
-use Rattle.calendar.proofs.enquiry.enquire.Tie as tie
+use Rattle.enquiry.proofs.enquire.Statement.{statement}
+use Rattle.enquiry.proofs.enquire.Tie as tie
 
 -- the check, by what the two questions found
 first-refused : (date : ℕ) (holidays : List ℕ) (v : Verdict) → v ≡ dateQuestion date 0 → IsRefused v → dayCheck date holidays ≡ v

@@ -1,8 +1,8 @@
--- `calendar::enquiry::report_refusal` meets its contract: number and place are those of the verdict.
+-- `enquiry::report_refusal` meets its contract: number and place are those of the verdict.
 -- Assumes nothing.
 use borrow.Author.Needs.{needs}
-use Rattle.calendar.proofs.enquiry.report_refusal.Statement.{statement}
-use Rattle.calendar.proofs.enquiry.report_refusal.Tie as tie
+use Rattle.enquiry.proofs.report_refusal.Statement.{statement}
+use Rattle.enquiry.proofs.report_refusal.Tie as tie
 
 number-of-requires : tie.Need-number-of-requires
 number-of-requires c κs = search needs

@@ -1,8 +1,8 @@
--- `calendar::enquiry::report_day` meets its contract: each figure is what its function answers.
+-- `enquiry::report_day` meets its contract: each figure is what its function answers.
 -- Assumes nothing.
 use borrow.Author.Needs.{needs}
-use Rattle.calendar.proofs.enquiry.report_day.Statement.{statement}
-use Rattle.calendar.proofs.enquiry.report_day.Tie as tie
+use Rattle.enquiry.proofs.report_day.Statement.{statement}
+use Rattle.enquiry.proofs.report_day.Tie as tie
 
 season-figure-requires : tie.Need-season-figure-requires
 season-figure-requires c κs = search needs

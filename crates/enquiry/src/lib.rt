@@ -1,12 +1,12 @@
 // The day enquiry: questions 7 and 9, and what document 01 says of the day.
-use crate::dates::Date;
-use crate::days::DayType;
-use crate::days::Season;
+use calendar::dates::Date;
+use calendar::days::DayType;
+use calendar::days::Season;
 use refusal::Verdict;
 ghost use mathlib.Core.Path.{_≡_};
 ghost use mathlib.Core.Bool.{true};
 ghost use Rattle.calendar.specs.Dates.{isDate};
-ghost use Rattle.calendar.specs.Enquiry.{describe, dayEnquiry, reportedDay, reportedRefusal, reported, seasonFigure, dayTypeFigure};
+ghost use Rattle.enquiry.specs.Enquiry.{describe, dayEnquiry, reportedDay, reportedRefusal, reported, seasonFigure, dayTypeFigure};
 
 pub struct Day {
     pub weekday: u32,
@@ -37,13 +37,13 @@ fn describe(d: Date, holidays: &[u32]) -> Day
     requires { ⌜ isDate d ≡ true ⌝ }
     ensures { λ r. ⌜ r ≡ describe d (now (holidays .entry)) ⌝ }
 {
-    let weekday = crate::dates::weekday_of(d);
+    let weekday = calendar::dates::weekday_of(d);
     Day {
         weekday,
-        t: crate::dates::day_of_year(d),
-        season: crate::days::season_of(d),
-        day_type: crate::days::day_type_of(d, weekday, holidays),
-        values: crate::days::values_under(crate::days::clock_of(d, weekday)),
+        t: calendar::dates::day_of_year(d),
+        season: calendar::days::season_of(d),
+        day_type: calendar::days::day_type_of(d, weekday, holidays),
+        values: calendar::days::values_under(calendar::days::clock_of(d, weekday)),
     }
 }
 
@@ -51,15 +51,15 @@ fn describe(d: Date, holidays: &[u32]) -> Day
 pub fn enquire(date: u32, holidays: &[u32]) -> DayAnswer
     ensures { λ r. ⌜ r ≡ dayEnquiry date (now (holidays .entry)) ⌝ }
 {
-    let v = crate::holidays::date_question(date, 0);
+    let v = calendar::holidays::date_question(date, 0);
     let Verdict::Pass = v else {
         return DayAnswer::Refused(v);
     };
-    let v = crate::holidays::holidays_question(holidays);
+    let v = calendar::holidays::holidays_question(holidays);
     let Verdict::Pass = v else {
         return DayAnswer::Refused(v);
     };
-    DayAnswer::Described(describe(crate::dates::date_of(date), holidays))
+    DayAnswer::Described(describe(calendar::dates::date_of(date), holidays))
 }
 
 // 1 winter, 2 summer, 3 transition: the order of the tables in the profile file.
