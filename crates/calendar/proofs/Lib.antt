@@ -1,2 +1,3 @@
 pub mod DateLaws
 pub mod NextDay
+pub mod Positions

@@ -7,8 +7,8 @@ use native.Mathlib.Omega.{arith}
 use borrow.Author.Tests.{lt-ltb, le-ltb, ltb-true, ltb-false}
 use lib.Dec.{ltb}
 use Rattle.calendar.specs.declared.dates.Date.{Date}
-use Rattle.calendar.specs.Dates.{numberOf, monthLength, leapDays, isDate, daysOfMonths, dayOfYear, daysOfYears, dayNumber, nextDay, NextDayCounts}
-use Rattle.calendar.proofs.DateLaws.{Parts, parts, is-date, month-large, january, months-next, months-all, years-next}
+use Rattle.calendar.specs.Dates.{numberOf, monthLength, leapDays, isDate, daysOfMonths, dayOfYear, daysOfYears, dayNumber, nextDay, NextDayCounts, EveryDate}
+use Rattle.calendar.proofs.DateLaws.{Parts, parts, is-date, month-large, january, months-next, months-all, years-next, day-of-year-range}
 
 -- the three dates that a next day can be
 abbrev pub sameMonth : Date → Date
@@ -101,3 +101,9 @@ next-day-counts d h = by-day (ltb (d .day) length) refl
         counted d (sameMonth d) (is-same-month d length refl l) (same-month d h l)
         (λ before. is-date (sameMonth d) (p .year-from) (p .year-to) (p .month-from) (p .month-to) (omega arith) (omega arith))
     by-day false e = by-month (ltb-false (d .day) length e) (ltb (d .month) 12) refl
+
+pub every-date : EveryDate
+unfolding EveryDate
+every-date d h =
+    let range = day-of-year-range d h in
+    record { fromOne = range .0; toYearEnd = range .1; next = next-day-counts d h }

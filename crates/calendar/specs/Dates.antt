@@ -1,9 +1,8 @@
 -- Document 01, "Calendar": dates, day numbers, weekdays and the day of the year.
--- Assumes nothing.
 use mathlib.Core.Path.{_≡_}
 use mathlib.Core.Bool.{Bool, true, cond, _&&_}
 use mathlib.Core.List.{List, [], _∷_}
-use Prim.Native.Nat.{ℕ, zero, suc, _+_, _-_, _*_, _/_, _%_, _<_}
+use Prim.Native.Nat.{ℕ, zero, suc, _+_, _-_, _*_, _/_, _%_, _≤_, _<_}
 use lib.Dec.{leb, ltb, eqb}
 use lib.ListN.{getD}
 use Rattle.calendar.specs.declared.dates.Date.{Date}
@@ -23,7 +22,7 @@ monthLengths = 31 ∷ 28 ∷ 31 ∷ 30 ∷ 31 ∷ 30 ∷ 31 ∷ 31 ∷ 30 ∷ 31
 unfoldable pub leapDays : ℕ → ℕ
 leapDays year = cond (eqb (year % 4) 0) 1 0
 
--- the table's length, and in February the leap day
+-- the table's length, and in February the leap day, for months 1 to 12
 unfoldable pub monthLength : ℕ → ℕ → ℕ
 monthLength year month = getD monthLengths (month - 1) 0 + cond (eqb month 2) (leapDays year) 0
 
@@ -67,7 +66,16 @@ nextDay d =
     (record { year = d .year; month = d .month + 1; day = 1 })
     (record { year = d .year + 1; month = 1; day = 1 }))
 
--- the next day has the next day number, and is a date unless the span is over: proved in proofs/NextDay.antt
+-- the next day has the next day number, and is a date unless the span is over
 pub record NextDayCounts (d : Date) : Type 0 where
   pub counts : dayNumber (nextDay d) ≡ dayNumber d + 1
   pub isDateToo : numberOf d < 20991231 → isDate (nextDay d) ≡ true
+
+-- what holds of every date. Proved in proofs/NextDay.antt and proofs/DateLaws.antt.
+pub record DateFacts (d : Date) : Type 0 where
+  pub fromOne : 1 ≤ dayOfYear d
+  pub toYearEnd : dayOfYear d ≤ 365 + leapDays (d .year)
+  pub next : NextDayCounts d
+
+unfoldable pub EveryDate : Type 0
+EveryDate = (d : Date) → isDate d ≡ true → DateFacts d

@@ -1,5 +1,4 @@
 -- Document 01, questions 7 and 9: dates and the holiday list.
--- Assumes nothing.
 use mathlib.Core.Bool.{_&&_, _||_}
 use mathlib.Core.List.{List}
 use Prim.Native.Nat.{ℕ, _-_}

@@ -21,15 +21,16 @@ fn holiday_question(holidays: &[u32], index: usize) -> Verdict
     requires { ⌜ index < length (now holidays) ⌝ }
     ensures { λ r. ⌜ r ≡ holidayQuestion (now (holidays .entry)) index ⌝ }
 {
+    let refused = Verdict::Refused(Refusal::BadHoliday(index));
     if 400 <= index {
-        return Verdict::Refused(Refusal::BadHoliday(index));
+        return refused;
     }
     if !crate::dates::is_date(crate::dates::date_of(holidays[index])) {
-        return Verdict::Refused(Refusal::BadHoliday(index));
+        return refused;
     }
     if index != 0 {
         if holidays[index] <= holidays[index - 1] {
-            return Verdict::Refused(Refusal::BadHoliday(index));
+            return refused;
         }
     }
     Verdict::Pass

@@ -1,5 +1,4 @@
 -- Document 01, "Dynamisation": the factor of a day and the power that it makes of a profile's value.
--- Assumes nothing.
 use Prim.Native.Nat.{ℕ, zero, suc, _+_, _*_, _/_, _^_}
 use lib.IntN.{ℤ, pos, _+ℤ_, _-ℤ_, _*ℤ_, negℤ, natAbs}
 

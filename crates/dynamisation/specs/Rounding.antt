@@ -1,6 +1,5 @@
 -- What the two roundings cost: the facts that the bound of demand 3 stands on, for every group, every day of the year
 -- and every value P of a profile. Proved in proofs/Rounding.antt.
--- Assumes nothing.
 use mathlib.Core.Path.{_≡_}
 use Prim.Native.Nat.{ℕ, suc, _+_, _*_, _^_, _≤_, _<_}
 use lib.IntN.{pos}

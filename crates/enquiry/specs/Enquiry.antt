@@ -1,5 +1,5 @@
--- Document 01: "A day enquiry takes a date and a list and gives weekday, t, season, day type and value count."
--- Assumes nothing.
+-- Document 01: "A day enquiry takes a date and a list and gives weekday (1 Monday to 7 Sunday), t, season, day type (1 weekday,
+-- 2 Saturday, 3 Sunday) and value count."
 use mathlib.Core.List.{List}
 use Prim.Native.Nat.{ℕ}
 use Rattle.refusal.specs.declared.Verdict.{Verdict}
@@ -37,7 +37,7 @@ answered (Verdict.Refused r) day = DayAnswer.Refused (Verdict.Refused r)
 unfoldable pub dayEnquiry : ℕ → List ℕ → DayAnswer
 dayEnquiry date holidays = answered (dayCheck date holidays) (describe (dateOf date) holidays)
 
--- seasons by the order of the tables in the file, and "day type (1 weekday, 2 Saturday, 3 Sunday)"
+-- the seasons' figures are our choice, by the order of the tables in the file; "day type (1 weekday, 2 Saturday, 3 Sunday)"
 abbrev pub seasonFigure : Season → ℕ
 seasonFigure Season.Winter = 1
 seasonFigure Season.Summer = 2
@@ -48,7 +48,7 @@ dayTypeFigure DayType.Weekday = 1
 dayTypeFigure DayType.Saturday = 2
 dayTypeFigure DayType.Sunday = 3
 
--- document 01's figures for each case of the answer: an accepted enquiry has number and place 0
+-- the figures for each case of the answer: an accepted enquiry has number and place 0
 abbrev pub reportedDay : Day → DayReport
 reportedDay day =
     record {

@@ -1,5 +1,4 @@
--- Document 01, "Marked days and figures", in its order. What needs the series joins with expanding.
--- Assumes nothing.
+-- Document 01, "Marked days and figures", in its order. The carry step joins with expanding.
 use mathlib.Core.Path.{_≡_}
 use mathlib.Core.List.{[]}
 use Prim.Native.Nat.{ℕ}
@@ -7,7 +6,7 @@ use lib.IntN.{pos}
 use Rattle.calendar.specs.declared.days.Season.{Season}
 use Rattle.calendar.specs.declared.days.DayType.{DayType}
 use Rattle.calendar.specs.Dates.{dateOf, dayOfYear, weekdayOf}
-use Rattle.calendar.specs.Days.{season, dayType, valueCount}
+use Rattle.calendar.specs.Days.{season, dayType, valueCount, valuesOfDays}
 use Rattle.dynamisation.specs.Dynamisation.{X, F, Q}
 
 -- "X and F" of the households, group code 0
@@ -31,7 +30,7 @@ pub record MarkedFigures : Type 0 where
   pub t-365 : Factor 365 1_257_215_955_000 12_572
   pub t-366 : Factor 366 1_259_685_225_088 12_597
   -- "H0, t = 1, P = 250: Q = 311 (a half goes up)"
-  pub halfUp : Q 250 (F 0 1) ≡ 311
+  pub half : Q 250 (F 0 1) ≡ 311
   -- "20 and 21 March: W, T. 14 and 15 May: T, S. 14 and 15 September: S, T. 31 October and 1 November: T, W."
   pub march-20 : InSeason 3 20 Season.Winter
   pub march-21 : InSeason 3 21 Season.Transition
@@ -47,6 +46,7 @@ pub record MarkedFigures : Type 0 where
   -- "24 December 1999 (Friday): W2. 31 December 2000 (Sunday): W3."
   pub christmasEve : DayIs 19991224 5 Season.Winter DayType.Saturday
   pub yearEnd : DayIs 20001231 7 Season.Winter DayType.Sunday
-  -- "26 March 2000: 92 values. 29 October 2000: 100."
+  -- "26 March 2000: 92 values. 29 October 2000: 100. Year 2000: 35,136."
   pub clockForward : valueCount (dateOf 20000326) ≡ 92
   pub clockBack : valueCount (dateOf 20001029) ≡ 100
+  pub year-2000 : valuesOfDays 366 (dateOf 20000101) ≡ 35_136

@@ -4,20 +4,19 @@ use mathlib.Core.Path.{_≡_, refl, sym, _∙_}
 use mathlib.Core.Bool.{Bool, cond}
 use mathlib.Core.List.{List, _++_}
 use Prim.Native.Nat.{ℕ, _≤_, _<_}
-use native.Mathlib.Omega.{arith}
 use lib.ListN.{length, drop}
 use borrow.Author.Tests.{le-leb, lt-leb}
 use Rattle.refusal.specs.declared.Refusal.the-variants.{ShortOutput, NoGroup}
 use Rattle.refusal.specs.declared.Verdict.{Verdict}
 use Rattle.refusal.specs.declared.Verdict.the-variants.{Pass, Refused}
-use Rattle.refusal.proofs.Laws.{IsRefused, ask-yes, ask-no, then-pass, stops, on-refused}
+use Rattle.refusal.proofs.Laws.{IsRefused, passed-not-refused, ask-yes, ask-no, then-pass, stops, on-refused}
 use Rattle.profile.specs.declared.comparing.Comparison.{Comparison}
 use Rattle.profile.specs.declared.comparing.Comparison.the-variants.{Alike, Different}
 use Rattle.profile.specs.declared.file.Found.the-variants.{At, Nothing}
 use Rattle.profile.specs.File.{layoutOf, fileCheck, groupIn, tableOf}
 use Rattle.profile.specs.Calls.{readCheck, tableAfter, compareCheck, same, comparison}
 use Rattle.profile.specs.Inside.{wordsOf}
-use Rattle.profile.proofs.Tables.{PartOf, part-words}
+use Rattle.profile.proofs.Tables.{PartOf, part-words, table-length}
 use Rattle.profile.proofs.Finding.{group-found, group-missing, check-found}
 
 -- reading
@@ -34,13 +33,13 @@ module _ (file : List ℕ) (group : ℕ) (table : List ℕ) where
     read-passed h = sym (then-pass _ (check-found file group passed at) ∙ ask-yes _ (le-leb _ _ h))
 
     pub read-table : layoutOf file .values ≤ length table → tableAfter file group table ≡ tableOf file group ++ drop (layoutOf file .values) table
-    read-table h = rw (← read-passed h)
+    read-table h = rw (← read-passed h, table-length file group)
 
 -- comparing
 module _ (file : List ℕ) (first second : ℕ) where
   pub not-compared : (v : Verdict) → v ≡ compareCheck file first second → IsRefused v → Comparison.Refused v ≡ comparison file first second
   unfolding comparison
-  not-compared Pass e t = let z : _≡_ {A = ℕ} 0 1 = t in absurd (omega arith)
+  not-compared Pass e t = passed-not-refused t
   not-compared (Refused r) e t = rw (← e)
 
   module _ (passed : fileCheck file ≡ Pass) where

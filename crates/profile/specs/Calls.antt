@@ -1,8 +1,7 @@
 -- Document 01, "The profile file": what the calls of reading answer and leave in the lent memory, accepted and refused.
--- Assumes nothing.
 use mathlib.Core.Path.{_≡_}
 use mathlib.Core.Bool.{Bool, true, false, cond, _&&_}
-use mathlib.Core.List.{List, [], _∷_, _++_}
+use mathlib.Core.List.{List, [], _∷_}
 use Prim.Native.Nat.{ℕ, _+_, _*_}
 use lib.Dec.{leb, eqb}
 use lib.ListN.{length, take, drop}
@@ -10,8 +9,9 @@ use denote.Ref.{RefT, now}
 use Rattle.refusal.specs.declared.Refusal.the-variants.{ShortOutput}
 use Rattle.refusal.specs.declared.Verdict.{Verdict}
 use Rattle.refusal.specs.declared.Verdict.the-variants.{Pass, Refused}
-use Rattle.refusal.specs.Verdict.{ask, _then_, onPass}
+use Rattle.refusal.specs.Verdict.{number, place, ask, _then_, onPass, lentAfter}
 use Rattle.profile.specs.declared.comparing.Comparison.{Comparison}
+use Rattle.profile.specs.declared.comparing.ComparisonReport.{ComparisonReport}
 use Rattle.profile.specs.declared.comparing.Comparison.the-variants.{Alike, Different}
 use Rattle.profile.specs.File.{layoutOf, check, fileCheck, groupQuestion, groupIn, valuesAt, tableOf}
 
@@ -33,10 +33,9 @@ abbrev pub readCheck : List ℕ → ℕ → ℕ → Verdict
 readCheck file group room =
     check file group then ask (leb (layoutOf file .values) room) (ShortOutput (layoutOf file .values))
 
--- "fills the entries it needs from the start of the lent output and keeps those beyond"
+-- the lent table after the call
 abbrev pub tableAfter : List ℕ → ℕ → List ℕ → List ℕ
-tableAfter file group table =
-    onPass (readCheck file group (length table)) (tableOf file group ++ drop (layoutOf file .values) table) table
+tableAfter file group table = lentAfter (readCheck file group (length table)) (tableOf file group) table
 
 -- Comparing: questions 1 to 6, "with place 0 or 1 in question 6 for the first group missing"
 abbrev pub compareCheck : List ℕ → ℕ → ℕ → Verdict
@@ -57,13 +56,8 @@ comparison file first second =
     compared Pass alike = cond alike Alike Different
     compared (Refused r) alike = Comparison.Refused (Refused r)
 
--- document 01's number, place and value for a comparison: 1 for alike, 0 for different and on a refusal
-abbrev pub comparisonVerdict : Comparison → Verdict
-comparisonVerdict Alike = Pass
-comparisonVerdict Different = Pass
-comparisonVerdict (Comparison.Refused v) = v
-
-abbrev pub alikeFigure : Comparison → ℕ
-alikeFigure Alike = 1
-alikeFigure Different = 0
-alikeFigure (Comparison.Refused v) = 0
+-- the figures for each case of the answer; 1 for alike is our choice
+abbrev pub reportedComparison : Comparison → ComparisonReport
+reportedComparison Alike = record { number = 0; place = 0; alike = 1 }
+reportedComparison Different = record { number = 0; place = 0; alike = 0 }
+reportedComparison (Comparison.Refused v) = record { number = number v; place = place v; alike = 0 }

@@ -1,5 +1,4 @@
 -- Document 01, "The profile file" and questions 1 to 6: what the bytes of a file mean, and when a file is accepted.
--- Assumes nothing.
 use mathlib.Core.Bool.{Bool, true, false, cond, _&&_, _||_}
 use mathlib.Core.List.{List, [], _∷_}
 use Prim.Native.Nat.{ℕ, zero, suc, _+_, _-_, _*_}
@@ -121,6 +120,6 @@ abbrev pub valuesAt : Layout → Found → ℕ
 valuesAt layout (At at) = at + layout .before
 valuesAt layout Nothing = 0
 
--- a group's 864 values
+-- a group's 864 values, where it is found
 abbrev pub tableOf : List ℕ → ℕ → List ℕ
 tableOf file group = wordsFrom file (layoutOf file .values) (valuesAt (layoutOf file) (groupIn file group))

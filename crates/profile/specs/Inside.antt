@@ -1,5 +1,4 @@
 -- What the reader's inner functions require of a file and its layout, and their callers show. No definition of document 01.
--- Assumes nothing.
 use mathlib.Core.Path.{_≡_}
 use mathlib.Core.List.{List}
 use Prim.Native.Nat.{ℕ, _+_, _*_, _/_, _<_, _≤_}

@@ -4,7 +4,7 @@ use refusal::Refusal;
 use refusal::Verdict;
 ghost use mathlib.Core.Path.{_≡_};
 ghost use lib.ListN.{length};
-ghost use Rattle.profile.specs.Calls.{same, comparison, comparisonVerdict, alikeFigure};
+ghost use Rattle.profile.specs.Calls.{same, comparison, reportedComparison};
 ghost use Rattle.profile.specs.Inside.{wordsOf};
 
 // What comparing two groups says.
@@ -12,6 +12,13 @@ pub enum Comparison {
     Alike,
     Different,
     Refused(Verdict),
+}
+
+// The answer in figures: number and place are 0 when the groups were compared.
+pub struct ComparisonReport {
+    pub number: u32,
+    pub place: usize,
+    pub alike: u32,
 }
 
 // Whether the values of two parts of one length agree.
@@ -55,24 +62,31 @@ pub fn compare(file: &[u8], first: u8, second: u8) -> Comparison
     }
 }
 
-// Number and place of a comparison.
-pub fn comparison_verdict(c: Comparison) -> Verdict
-    ensures { λ r. ⌜ r ≡ comparisonVerdict c ⌝ }
+fn report_refusal(v: Verdict) -> ComparisonReport
+    ensures { λ r. ⌜ r ≡ reportedComparison (Comparison.Refused v) ⌝ }
 {
-    match c {
-        Comparison::Alike => Verdict::Pass,
-        Comparison::Different => Verdict::Pass,
-        Comparison::Refused(v) => v,
+    ComparisonReport {
+        number: refusal::number_of(v),
+        place: refusal::place_of(v),
+        alike: 0,
     }
 }
 
-// 1 for alike, 0 for different and on a refusal.
-pub fn alike(c: Comparison) -> u32
-    ensures { λ r. ⌜ r ≡ alikeFigure c ⌝ }
+// The answer in figures: 1 for alike, 0 for different and on a refusal.
+pub fn report(answer: Comparison) -> ComparisonReport
+    ensures { λ r. ⌜ r ≡ reportedComparison answer ⌝ }
 {
-    match c {
-        Comparison::Alike => 1,
-        Comparison::Different => 0,
-        Comparison::Refused(_) => 0,
+    match answer {
+        Comparison::Alike => ComparisonReport {
+            number: 0,
+            place: 0,
+            alike: 1,
+        },
+        Comparison::Different => ComparisonReport {
+            number: 0,
+            place: 0,
+            alike: 0,
+        },
+        Comparison::Refused(v) => report_refusal(v),
     }
 }

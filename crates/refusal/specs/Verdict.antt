@@ -1,8 +1,9 @@
 -- Document 01, "The questions, first "no" counts": how questions are asked one after the other, and the number and place
 -- that a refusal is reported with.
--- Assumes nothing.
 use Prim.Native.Nat.{ℕ, zero, suc, _+_}
 use mathlib.Core.Bool.{Bool, true, false}
+use mathlib.Core.List.{List, _++_}
+use lib.ListN.{length, drop}
 use Rattle.refusal.specs.declared.Refusal.{Refusal}
 use Rattle.refusal.specs.declared.Refusal.the-variants.{NoMark, WrongVersion, WrongLength, BadCode, BadValue, NoGroup, BadDate, BadPeriod, BadHoliday, BadUse, BadCarry, ShortOutput}
 use Rattle.refusal.specs.declared.Verdict.{Verdict}
@@ -63,7 +64,12 @@ unfoldable pub askEach : (ℕ → Verdict) → ℕ → ℕ → ℕ → Verdict
 askEach question step zero at = Pass
 askEach question step (suc n) at = question at then askEach question step n (at + step)
 
--- a where every question passed, else b: "a refusal gives .. zeros elsewhere, and lent memory keeps its content"
+-- a where every question passed, else b
 abbrev pub onPass : {A : Type 0} → Verdict → A → A → A
 onPass Pass a b = a
 onPass (Refused r) a b = b
+
+-- lent memory after a call: "An accepted call fills the entries it needs from the start of the lent output and keeps those
+-- beyond"; on a refusal "lent memory keeps its content"
+abbrev pub lentAfter : Verdict → List ℕ → List ℕ → List ℕ
+lentAfter verdict new old = onPass verdict (new ++ drop (length new) old) old

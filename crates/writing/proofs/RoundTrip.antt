@@ -9,7 +9,7 @@ use native.Mathlib.Numerals.{add-one}
 use native.Mathlib.Omega.{arith}
 use borrow.Author.Tests.{le-leb, eq-eqb}
 use lib.ListN.{length, drop, getD, length-append, drop-of-length-le}
-use lib.Seq.{drop-cons, take-at, drop-at}
+use lib.Seq.{drop-cons, take-at, drop-at, ext-getD}
 use Rattle.refusal.specs.declared.Refusal.the-variants.{NoMark, WrongVersion, WrongLength, NoGroup, ShortOutput}
 use Rattle.refusal.specs.declared.Verdict.the-variants.{Pass}
 use Rattle.refusal.proofs.Laws.{ask-yes, then-pass}
@@ -63,24 +63,47 @@ module _ (codes values : List ℕ) (room : ℕ) (w : Writable codes values room)
       ap (λ (group : ℕ). groupIn file group) (sym (code-at codes values (w .amount .each) i h))
       ∙ finds (layoutOf file) file (omega arith) (byteAt file 5) 6 i (omega arith) (w .codesPass) (rw (count-written codes values) h)
 
+-- the codes of a file's contents, one by one
+length-codes : (layout : Layout) (file : List ℕ) (n at : ℕ) → length (codesFrom layout file n at) ≡ n
+unfolding codesFrom
+length-codes layout file zero at = refl
+length-codes layout file (suc n) at = ap suc (length-codes layout file n (at + profileLength layout))
+
+code-of : (layout : Layout) (file : List ℕ) (n at i : ℕ) → i < n → getD (codesFrom layout file n at) i 0 ≡ byteAt file (at + i * profileLength layout)
+unfolding codesFrom
+code-of layout file zero at i h = absurd (omega arith)
+code-of layout file (suc n) at zero h =
+    let here : at ≡ at + zero * profileLength layout = omega arith in
+    ap (byteAt file) here
+code-of layout file (suc n) at (suc i) h =
+    let step : ℕ = profileLength layout in
+    let there : at + step + i * step ≡ at + suc i * step = omega (arith, suc-mul i step) in
+    code-of layout file n (at + step) i (omega arith) ∙ ap (byteAt file) there
+
+codes-back : (codes values : List ℕ) → Amounts codes values → codesOf (written codes values) ≡ codes
+unfolding layoutOf
+codes-back codes values a =
+    let file : List ℕ = written codes values in
+    let all : length (codesOf file) ≡ length codes = length-codes (layoutOf file) file (byteAt file 5) 6 ∙ count-written codes values in
+    ext-getD 0 (codesOf file) codes all
+    (λ i h. code-of (layoutOf file) file (byteAt file 5) 6 i (omega (arith, count-written codes values)) ∙ code-at codes values (a .each) i (omega arith))
+
 pub written-reads-back : WrittenReadsBack
 unfolding WrittenReadsBack groupQuestion layoutOf
-written-reads-back codes values room pass i h =
-    let w = writable codes values room pass in
-    let at = found codes values room w i h in (
-      then-pass _ (file-passes codes values room w) ∙ ask-yes (NoGroup 0) (ap isFound at),
-      ap (λ (f : Found). wordsFrom (written codes values) (layoutOf (written codes values) .values) (valuesAt (layoutOf (written codes values)) f)) at
-          ∙ values-at codes values (w .amount .each) i h,
+written-reads-back codes values room pass =
+    let w = writable codes values room pass in (
+      codes-back codes values (w .amount),
+      λ i h.
+          let at = found codes values room w i h in (
+            then-pass _ (file-passes codes values room w) ∙ ask-yes (NoGroup 0) (ap isFound at),
+            ap (λ (f : Found). wordsFrom (written codes values) (layoutOf (written codes values) .values) (valuesAt (layoutOf (written codes values)) f)) at
+                ∙ values-at codes values (w .amount .each) i h,
+          ),
     )
 
 -- ---- an accepted file is rewritten to the same bytes
 
 module _ (layout : Layout) (file : List ℕ) where
-  length-codes : (n at : ℕ) → length (codesFrom layout file n at) ≡ n
-  unfolding codesFrom
-  length-codes zero at = refl
-  length-codes (suc n) at = ap suc (length-codes n (at + profileLength layout))
-
   length-values : (n at : ℕ) → length (valuesFrom layout file n at) ≡ n * layout .values
   unfolding valuesFrom
   length-values zero at = sym (zero-mul (layout .values))

@@ -1,6 +1,5 @@
 -- Demand 2: "A profile file that we write reads back to the same tables, and an accepted file is rewritten to the same bytes."
 -- Proved in proofs/RoundTrip.antt.
--- Assumes nothing.
 use mathlib.Core.Path.{_≡_}
 use mathlib.Core.List.{List, [], _∷_, _++_}
 use Prim.Native.Nat.{ℕ, zero, suc, _+_, _*_, _<_, _≤_}
@@ -13,14 +12,6 @@ use Rattle.writing.specs.Writing.{written, writeCheck}
 -- every element of a list is below a limit: 256 for a list of bytes
 abbrev pub Below : ℕ → List ℕ → Type 0
 Below limit xs = (i : ℕ) → i < length xs → getD xs i 0 < limit
-
--- what writing makes of an accepted writing is an accepted file, and reading each of its groups gives that group's values
-unfoldable pub WrittenReadsBack : Type 0
-WrittenReadsBack =
-    (codes values : List ℕ) (room : ℕ) → writeCheck codes values room ≡ Pass →
-    (i : ℕ) → i < length codes →
-    (check (written codes values) (getD codes i 0) ≡ Pass)
-    × (tableOf (written codes values) (getD codes i 0) ≡ take 864 (drop (i * 864) values))
 
 -- a file's contents: the codes and the values of n profiles from `at` on, and of all
 unfoldable pub codesFrom : Layout → List ℕ → ℕ → ℕ → List ℕ
@@ -37,6 +28,16 @@ codesOf file = codesFrom (layoutOf file) file (layoutOf file .count) headerLengt
 
 abbrev pub valuesOf : List ℕ → List ℕ
 valuesOf file = valuesFrom (layoutOf file) file (layoutOf file .count) headerLength
+
+-- what writing makes of an accepted writing is an accepted file of these codes, and reading each of its groups gives that
+-- group's values
+unfoldable pub WrittenReadsBack : Type 0
+WrittenReadsBack =
+    (codes values : List ℕ) (room : ℕ) → writeCheck codes values room ≡ Pass →
+    (codesOf (written codes values) ≡ codes)
+    × ((i : ℕ) → i < length codes →
+    (check (written codes values) (getD codes i 0) ≡ Pass)
+    × (tableOf (written codes values) (getD codes i 0) ≡ take 864 (drop (i * 864) values)))
 
 -- "each accepted file equals what writing makes of its contents": writing accepts them wherever the buffer is as long as the file
 unfoldable pub AcceptedIsRewritten : Type 0

@@ -1,5 +1,4 @@
 -- Document 01, "The profile file": what writing makes of codes and values, and what it asks first.
--- Assumes nothing.
 use mathlib.Core.Bool.{_&&_}
 use mathlib.Core.List.{List, [], _∷_, _++_}
 use Prim.Native.Nat.{ℕ, _*_, _/_, _%_}
@@ -7,7 +6,7 @@ use lib.Dec.{leb, eqb}
 use lib.ListN.{length, take, drop}
 use Rattle.refusal.specs.declared.Refusal.the-variants.{WrongLength, ShortOutput}
 use Rattle.refusal.specs.declared.Verdict.{Verdict}
-use Rattle.refusal.specs.Verdict.{ask, _then_, onPass}
+use Rattle.refusal.specs.Verdict.{ask, _then_, lentAfter}
 use Rattle.profile.specs.File.{mark, layoutOf, codesQuestion, valuesQuestion}
 
 -- 16-bit numbers, big-endian
@@ -33,7 +32,7 @@ amountQuestion codes values =
 unfoldable pub roomQuestion : List ℕ → ℕ → Verdict
 roomQuestion file room = ask (leb (length file) room) (ShortOutput (length file))
 
--- "Writing has 3, 4, 5 (places as in the file to be written) and 12": 4 and 5 are the reader's, asked of the file to be written
+-- "Writing has 3 (1 to 11 codes, 864 values for each), 4, 5 (places as in the file to be written) and 12.": 4 and 5 are the reader's, asked of the file to be written
 unfoldable pub writeCheck : List ℕ → List ℕ → ℕ → Verdict
 writeCheck codes values room =
     amountQuestion codes values
@@ -44,6 +43,4 @@ writeCheck codes values room =
 -- the lent buffer after the call
 abbrev pub bufferAfter : List ℕ → List ℕ → List ℕ → List ℕ
 bufferAfter codes values buffer =
-    onPass (writeCheck codes values (length buffer))
-    (written codes values ++ drop (length (written codes values)) buffer)
-    buffer
+    lentAfter (writeCheck codes values (length buffer)) (written codes values) buffer
