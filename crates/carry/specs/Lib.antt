@@ -1,0 +1,2 @@
+pub mod Carry
+pub mod Energy
