@@ -24,7 +24,7 @@ pub fn date_of(number: u32) -> Date
     }
 }
 
-pub fn number_of(d: Date) -> u32
+pub(crate) fn number_of(d: Date) -> u32
     requires { ⌜ isDate d ≡ true ⌝ }
     ensures { λ r. ⌜ r ≡ numberOf d ⌝ }
 {
@@ -32,7 +32,7 @@ pub fn number_of(d: Date) -> u32
 }
 
 // The days of a month, 29 for February of a leap year.
-pub fn month_length(year: u32, month: u32) -> u32
+pub(crate) fn month_length(year: u32, month: u32) -> u32
     requires { ⌜ (1 ≤ month) × (month ≤ 12) ⌝ }
     ensures { λ r. ⌜ r ≡ monthLength year month ⌝ }
 {
@@ -83,7 +83,7 @@ pub fn day_of_year(d: Date) -> u32
 }
 
 // Days since 1 January 1996: of each four years the first has the leap day.
-pub fn day_number(d: Date) -> u32
+pub(crate) fn day_number(d: Date) -> u32
     requires { ⌜ isDate d ≡ true ⌝ }
     ensures { λ r. ⌜ r ≡ dayNumber d ⌝ }
 {

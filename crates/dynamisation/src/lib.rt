@@ -6,7 +6,7 @@ ghost use Prim.Native.Nat.{_≤_};
 ghost use Rattle.dynamisation.specs.Dynamisation.{X, F, Q};
 
 // X of the households, in units of 10^-12.
-pub fn household_sum(t: u32) -> i64
+fn household_sum(t: u32) -> i64
     requires { ⌜ (1 ≤ t) × (t ≤ 366) ⌝ }
     ensures { λ r. ⌜ r ≡ X 0 t ⌝ }
 {
@@ -17,7 +17,7 @@ pub fn household_sum(t: u32) -> i64
 }
 
 // X of a group by its code: households (code 0) are dynamised, the other groups are not.
-pub fn exact_factor(group: u8, t: u32) -> i64
+fn exact_factor(group: u8, t: u32) -> i64
     requires { ⌜ (1 ≤ t) × (t ≤ 366) ⌝ }
     ensures { λ r. ⌜ r ≡ X group t ⌝ }
 {

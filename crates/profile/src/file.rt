@@ -27,7 +27,7 @@ pub enum Found {
 }
 
 // The 16-bit number that begins at `at`.
-pub fn word_at(file: &[u8], at: usize) -> u32
+pub(crate) fn word_at(file: &[u8], at: usize) -> u32
     requires { ⌜ at + 2 ≤ length (now file) ⌝ }
     ensures { λ r. ⌜ (r ≡ wordAt (now (file .entry)) at) × (r < 65_536) ⌝ }
 {
@@ -67,7 +67,7 @@ fn version_question(file: &[u8]) -> Verdict
 }
 
 // What the header says of the profiles.
-pub fn layout_of(file: &[u8]) -> Layout
+pub(crate) fn layout_of(file: &[u8]) -> Layout
     requires { ⌜ headerLength ≤ length (now file) ⌝ }
     ensures { λ r. ⌜ (r ≡ layoutOf (now (file .entry))) × (r .count < 256) ⌝ }
 {
@@ -79,7 +79,7 @@ pub fn layout_of(file: &[u8]) -> Layout
 }
 
 // The bytes of one profile.
-pub fn profile_length(layout: Layout) -> usize
+pub(crate) fn profile_length(layout: Layout) -> usize
     requires { ⌜ Sound layout ⌝ }
     ensures { λ r. ⌜ r ≡ profileLength layout ⌝ }
 {
