@@ -1,4 +1,4 @@
-// The day enquiry of the crate `calendar` at work: for each date below a line with the date, its weekday, t, season with
+// The day enquiry of the crate `enquiry` at work: for each date below a line with the date, its weekday, t, season with
 // day type, and value count, or the refusal. The file stdout has the lines to expect.
 use calendar::days::Season;
 use enquiry::Day;
@@ -20,6 +20,9 @@ const HOLIDAYS: [u32; 11] = [
     20001225,
     20001226,
 ];
+
+// A list that is refused: its second entry is not later than the first.
+const REPEATED: [u32; 3] = [20000101, 20000101, 20000421];
 
 // The dates asked about. The last two are refused: 2000-02-30 is no date, and 2100-01-01 lies outside the span.
 const DATES: [u32; 18] = [
@@ -46,25 +49,34 @@ const DATES: [u32; 18] = [
 fn main() {
     let mut i: usize = 0;
     while i < 18 {
-        write_answer(DATES[i]);
+        write_listed(DATES[i]);
         i += 1;
     }
+    write_repeated();
+}
+
+fn write_listed(date: u32) {
+    write_answer(date, &HOLIDAYS);
+}
+
+fn write_repeated() {
+    write_answer(20000101, &REPEATED);
 }
 
 // One line.
-fn write_answer(date: u32) {
-    let answer = enquiry::enquire(date, &HOLIDAYS);
+fn write_answer(date: u32, holidays: &[u32]) {
+    write_date(date);
+    let answer = enquiry::enquire(date, holidays);
     match answer {
-        DayAnswer::Described(day) => write_day(date, day),
+        DayAnswer::Described(day) => write_day(day),
         DayAnswer::Refused(v) => write_refusal(v),
     }
     io::write_all(STDOUT_FILENO, b"\n");
 }
 
-fn write_day(date: u32, day: Day) {
+fn write_day(day: Day) {
     let season = day.season;
     let day_type = day.day_type;
-    write_date(date);
     write_next(day.weekday);
     write_next(day.t);
     io::write_all(STDOUT_FILENO, &[b' ', season_letter(season)]);
@@ -73,7 +85,7 @@ fn write_day(date: u32, day: Day) {
 }
 
 fn write_refusal(v: Verdict) {
-    io::write_all(STDOUT_FILENO, b"refused");
+    io::write_all(STDOUT_FILENO, b" refused");
     write_next(refusal::number_of(v));
     io::write_all(STDOUT_FILENO, b" ");
     io::print_decimal(STDOUT_FILENO, refusal::place_of(v) as u64);

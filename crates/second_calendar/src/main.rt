@@ -1,4 +1,4 @@
-// A second calendar against `calendar`, over every day from 1996-01-01 to 2099-12-31, with no holidays. Each day whose
+// A second calendar against `enquiry`, over every day from 1996-01-01 to 2099-12-31, with no holidays. Each day whose
 // figures differ is written as a line, then how many agree. The file stdout has the line to expect.
 mod second;
 
@@ -48,7 +48,7 @@ fn compare(year: u32, t: u32, weekday: u32) -> u32
     0
 }
 
-// What `calendar` answers.
+// What `enquiry` answers.
 fn enquired(date: u32) -> Figures {
     let holidays: [u32; 0] = [];
     let r = enquiry::report(enquiry::enquire(date, &holidays));

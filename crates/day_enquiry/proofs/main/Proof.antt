@@ -13,14 +13,14 @@ abbrev μ-loop : tie.MeasureT-loop
 loop-holds : tie.Need-loop-holds Inv-loop μ-loop
 loop-holds c = search needs
 
-mul-write-answer : tie.Need-mul-write-answer Inv-loop μ-loop
-mul-write-answer c = search needs
+mul-write-listed : tie.Need-mul-write-listed Inv-loop μ-loop
+mul-write-listed c = search needs
 
-array-read-write-answer : tie.Need-array-read-write-answer Inv-loop μ-loop
-array-read-write-answer c = search needs
+array-read-write-listed : tie.Need-array-read-write-listed Inv-loop μ-loop
+array-read-write-listed c = search needs
 
-write-answer-requires : tie.Need-write-answer-requires Inv-loop μ-loop
-write-answer-requires c κs = search needs
+write-listed-requires : tie.Need-write-listed-requires Inv-loop μ-loop
+write-listed-requires c κs = search needs
 
 add-i : tie.Need-add-i Inv-loop μ-loop
 add-i c = search needs
@@ -30,6 +30,9 @@ loop-less c = search needs
 
 loop-again : tie.Need-loop-again Inv-loop μ-loop
 loop-again c = search needs
+
+write-repeated-requires : tie.Need-write-repeated-requires Inv-loop μ-loop
+write-repeated-requires c κs = search needs
 
 returns : tie.Need-returns Inv-loop μ-loop
 returns c = search needs
@@ -41,10 +44,11 @@ main-spec =
     Inv-loop
     μ-loop
     loop-holds
-    mul-write-answer
-    array-read-write-answer
-    write-answer-requires
+    mul-write-listed
+    array-read-write-listed
+    write-listed-requires
     add-i
     loop-less
     loop-again
+    write-repeated-requires
     returns)
