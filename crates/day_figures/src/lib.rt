@@ -1,0 +1,100 @@
+// Series and carry (document 01): one day's powers, after the clock change, made into whole watt hours with a carry.
+use calendar::days::Clock;
+ghost use mathlib.Core.Path.{_≡_};
+ghost use Prim.Native.Nat.{_+_, _≤_, _<_};
+ghost use lib.ListN.{length};
+ghost use lib.Seq.{slice};
+ghost use Rattle.day_figures.specs.Day.{SmallPowers, DayCarried};
+ghost use Rattle.day_figures.specs.Ranges.{firstEnd, secondStart, InDay, RangeCarried};
+ghost use Rattle.calendar.specs.Days.{valuesUnder};
+
+// What a day's quarter hours come to: the sum of its figures in Wh, and the carry that it leaves.
+pub struct Carried {
+    pub total: u64,
+    pub carry: u32,
+}
+
+// The day's positions after the clock change are two ranges: those below `first_end`, then those from `second_start` on.
+fn first_end(clock: Clock) -> usize
+    ensures { λ r. ⌜ r ≡ firstEnd clock ⌝ }
+{
+    match clock {
+        Clock::Unchanged => 96,
+        Clock::Forward => 8,
+        Clock::Back => 12,
+    }
+}
+
+fn second_start(clock: Clock) -> usize
+    ensures { λ r. ⌜ r ≡ secondStart clock ⌝ }
+{
+    match clock {
+        Clock::Unchanged => 96,
+        Clock::Forward => 12,
+        Clock::Back => 8,
+    }
+}
+
+// Stores the figures of the positions from `from` to before `to`, from out[at] on. A figure is the growth of the quotient of the
+// sum so far: that is the document's carry step, and only the addition waits for the turn before.
+fn carry_range(
+    powers: [u32; 96],
+    from: usize,
+    to: usize,
+    yearly: u32,
+    carry: u32,
+    out: &mut [u32],
+    at: usize,
+) -> Carried
+    requires { ⌜ SmallPowers powers yearly carry ⌝ }
+    requires { ⌜ InDay from to (now out) at ⌝ }
+    ensures { λ r. ⌜ RangeCarried (slice from to powers) yearly carry (now (out .entry)) at r (now (out .exit)) ⌝ }
+{
+    let mut sum = carry as u64;
+    let mut total: u64 = 0;
+    let mut i = from;
+    let mut place = at;
+    while i < to {
+        sum += powers[i] as u64 * yearly as u64;
+        let next = sum / 40_000;
+        out[place] = (next - total) as u32;
+        total = next;
+        i += 1;
+        place += 1;
+    }
+    Carried {
+        total,
+        carry: (sum % 40_000) as u32,
+    }
+}
+
+// Stores the day's figures from out[at] on.
+pub fn carry_day(
+    powers: [u32; 96],
+    clock: Clock,
+    yearly: u32,
+    carry: u32,
+    out: &mut [u32],
+    at: usize,
+) -> Carried
+    requires { ⌜ SmallPowers powers yearly carry ⌝ }
+    requires { ⌜ at + valuesUnder clock ≤ length (now out) ⌝ }
+    ensures { λ r. ⌜ DayCarried powers clock yearly carry (now (out .entry)) at r (now (out .exit)) ⌝ }
+{
+    let end = first_end(clock);
+    let first = carry_range(powers, 0, end, yearly, carry, out, at);
+    let second = carry_range(
+        powers,
+        second_start(clock),
+        96,
+        yearly,
+        first.carry,
+        out,
+        at + end,
+    );
+    let both = first.total + second.total;
+    Carried {
+        total: both,
+        carry: second.carry,
+    }
+}
