@@ -37,13 +37,15 @@ leap-small year = go (eqb (year % 4) 0)
     go true = omega arith
     go false = omega arith
 
-pub month-small : (year month : ℕ) → monthLength year month ≤ 32
+pub month-small : (year month : ℕ) → monthLength year month ≤ 31
 unfolding monthLength
-month-small year month = go (eqb month 2)
+month-small year month = go (eqb month 2) refl
   where
-    go : (b : Bool) → getD monthLengths (month - 1) 0 + cond b (leapDays year) 0 ≤ 32
-    go true = omega (arith, table-small (month - 1), leap-small year)
-    go false = omega (arith, table-small (month - 1))
+    go : (b : Bool) → eqb month 2 ≡ b → getD monthLengths (month - 1) 0 + cond b (leapDays year) 0 ≤ 31
+    go true e =
+        let february : month - 1 ≡ 1 = omega (arith, eqb-true month 2 e) in
+        rw february (omega (arith, leap-small year))
+    go false e = omega (arith, table-small (month - 1))
 
 -- an entry of a table whose entries are all at least a limit
 all-large : ℕ → List ℕ → Bool
@@ -69,7 +71,7 @@ pub record Parts (d : Date) : Type 0 where
   pub month-to : d .month ≤ 12
   pub day-from : 1 ≤ d .day
   pub day-to : d .day ≤ monthLength (d .year) (d .month)
-  pub day-small : d .day ≤ 32
+  pub day-small : d .day ≤ 31
 
 pub parts : (d : Date) → isDate d ≡ true → Parts d
 unfolding isDate
@@ -119,6 +121,15 @@ months-rise year m zero = rw zero-add (le-refl (daysOfMonths year m))
 months-rise year m (suc k) =
     rw suc-add (omega (arith, months-rise year m k))
 
+-- a month is over before a later one begins
+pub months-over : (year m n : ℕ) → 1 ≤ m → m < n → daysOfMonths year (m - 1) + monthLength year m ≤ daysOfMonths year (n - 1)
+months-over year m n a b =
+    let one : m - 1 + 1 ≡ m = omega arith in
+    let all : n - 1 - m + m ≡ n - 1 = omega arith in
+    let next : daysOfMonths year m ≡ daysOfMonths year (m - 1) + monthLength year m = rw one at (months-next year (m - 1)) in
+    let rise : daysOfMonths year m ≤ daysOfMonths year (n - 1) = rw all at (months-rise year m (n - 1 - m)) in
+    omega arith
+
 -- no month stands before January
 pub january : (year : ℕ) → daysOfMonths year 0 ≡ 0
 unfolding daysOfMonths
@@ -131,15 +142,9 @@ months-all year = omega arith
 -- "1 January is day t = 1 and 31 December is 365 or 366"
 pub day-of-year-range : (d : Date) → isDate d ≡ true → (1 ≤ dayOfYear d) × (dayOfYear d ≤ 365 + leapDays (d .year))
 unfolding dayOfYear
-day-of-year-range d h = go (d .month) (parts d h .month-from) (parts d h .month-to) (parts d h .day-to)
-  where
-    go : (m : ℕ) → 1 ≤ m → m ≤ 12 → d .day ≤ monthLength (d .year) m → (1 ≤ daysOfMonths (d .year) (m - 1) + d .day) × (daysOfMonths (d .year) (m - 1) + d .day ≤ 365 + leapDays (d .year))
-    go m a b e =
-        let all : 12 - m + m ≡ 12 = omega arith in
-        let one : m - 1 + 1 ≡ m = omega arith in
-        let rise : daysOfMonths (d .year) m ≤ daysOfMonths (d .year) 12 = rw all at (months-rise (d .year) m (12 - m)) in
-        let next : daysOfMonths (d .year) m ≡ daysOfMonths (d .year) (m - 1) + monthLength (d .year) m = rw one at (months-next (d .year) (m - 1)) in
-        (omega (arith, parts d h), omega (arith, months-all (d .year)))
+day-of-year-range d h =
+    let p = parts d h in
+    (omega arith, omega (arith, months-over (d .year) (d .month) 13 (p .month-from) (omega arith), months-all (d .year)))
 
 -- one year more
 pub years-next : (n : ℕ) → daysOfYears (n + 1) ≡ daysOfYears n + (365 + leapDays (1996 + n))

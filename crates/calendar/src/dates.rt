@@ -83,7 +83,7 @@ pub fn day_of_year(d: Date) -> u32
 }
 
 // Days since 1 January 1996: of each four years the first has the leap day.
-pub(crate) fn day_number(d: Date) -> u32
+pub fn day_number(d: Date) -> u32
     requires { ⌜ isDate d ≡ true ⌝ }
     ensures { λ r. ⌜ r ≡ dayNumber d ⌝ }
 {

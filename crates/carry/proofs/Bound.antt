@@ -7,8 +7,8 @@ use Prim.Native.Nat.{ℕ, _+_, _*_, _^_, _≤_, _<_}
 use native.Mathlib.Nat.{mul-add, mul-assoc, mul-left-comm, mul-le-mul-left}
 use native.Mathlib.Omega.{arith}
 use lib.ListN.{length}
-use Rattle.carry.specs.Carry.{figures, lastCarry, sum}
-use Rattle.carry.specs.Energy.{Quarter, powers, values, products, exactSum, staticSum, Rounded, Each, Within, householdBound, otherBound, Undynamised, Bounded}
+use Rattle.carry.specs.Carry.{figures, sum}
+use Rattle.carry.specs.Energy.{Quarter, powers, values, products, exactSum, Rounded, Each, Within, householdBound, otherBound, Undynamised, Bounded}
 use Rattle.carry.proofs.Joining.{telescope, carry-small}
 
 -- the roundings of a run
@@ -50,7 +50,7 @@ spread yearly exact slots total =
       mul-left-comm yearly (5 * 10 ^ 7) total,
     )
 
-household : (yearly carry : ℕ) (run : List Quarter) → carry < 40_000 → Each Rounded run → Within (householdBound yearly run) yearly carry run
+household : (yearly carry : ℕ) (run : List Quarter) → carry < 40_000 → Each Rounded run → Within (householdBound yearly run) (exactSum yearly run) (sum (figures yearly (powers run) carry))
 household yearly carry run h e =
     let n = length run in
     let v = sum (values run) in
@@ -62,7 +62,7 @@ household yearly carry run h e =
     let both = carried yearly carry (yearly * p) slack run h above below in
     record { above = both .0; below = both .1 }
 
-other : (yearly carry : ℕ) (run : List Quarter) → carry < 40_000 → Each Undynamised run → Within otherBound yearly carry run
+other : (yearly carry : ℕ) (run : List Quarter) → carry < 40_000 → Each Undynamised run → Within otherBound (exactSum yearly run) (sum (figures yearly (powers run) carry))
 other yearly carry run h e =
     let p = sum (products run) in
     let s = sum (powers run) * 10 ^ 12 in

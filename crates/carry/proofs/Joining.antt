@@ -2,11 +2,11 @@
 -- Assumes nothing.
 use mathlib.Core.Path.{_≡_, refl, _∙_, ap}
 use mathlib.Core.List.{List, [], _∷_, _++_}
-use Prim.Native.Nat.{ℕ, _+_, _*_, _/_, _%_, _<_}
+use Prim.Native.Nat.{ℕ, zero, suc, _+_, _*_, _/_, _%_, _<_}
 use native.Mathlib.Nat.{mul-add, mul-comm, mul-zero}
 use native.Mathlib.Omega.{arith}
-use lib.ListN.{length}
-use Rattle.carry.specs.Carry.{figures, lastCarry, sum, Joined, EveryCut}
+use lib.ListN.{length, take, drop}
+use Rattle.carry.specs.Carry.{figures, lastCarry, sum, EveryCut}
 
 pub figures-append : (yearly : ℕ) (first second : List ℕ) (carry : ℕ) → figures yearly (first ++ second) carry ≡ figures yearly first carry ++ figures yearly second (lastCarry yearly first carry)
 unfolding figures lastCarry
@@ -53,3 +53,17 @@ every-cut = (
       },
   carry-small,
 )
+
+-- a run of figures is the figures of the run, with the carry that the quarter hours before it leave
+pub figures-take : (yearly n : ℕ) (powers : List ℕ) (carry : ℕ) → take n (figures yearly powers carry) ≡ figures yearly (take n powers) carry
+unfolding figures
+figures-take yearly zero powers carry = refl
+figures-take yearly (suc n) [] carry = refl
+figures-take yearly (suc n) (p ∷ powers) carry =
+    ap (λ (rest : List ℕ). (p * yearly + carry) / 40_000 ∷ rest) (figures-take yearly n powers ((p * yearly + carry) % 40_000))
+
+pub figures-drop : (yearly k : ℕ) (powers : List ℕ) (carry : ℕ) → drop k (figures yearly powers carry) ≡ figures yearly (drop k powers) (lastCarry yearly (take k powers) carry)
+unfolding figures lastCarry
+figures-drop yearly zero powers carry = refl
+figures-drop yearly (suc k) [] carry = refl
+figures-drop yearly (suc k) (p ∷ powers) carry = figures-drop yearly k powers ((p * yearly + carry) % 40_000)

@@ -35,15 +35,15 @@ pub record Rounded (q : Quarter) : Type 0 where
   pub above : q .power * 10 ^ 12 ≤ q .value * q .exact + (5 * 10 ^ 11 + q .value * (5 * 10 ^ 7))
   pub below : q .value * q .exact ≤ q .power * 10 ^ 12 + (5 * 10 ^ 11 + q .value * (5 * 10 ^ 7))
 
--- every quarter hour of a run has a property
-abbrev pub Each : (Quarter → Type 0) → List Quarter → Type 0
+-- every member of a list has a property
+abbrev pub Each : {A : Type 0} → (A → Type 0) → List A → Type 0
 Each property [] = Unit {0}
-Each property (q ∷ run) = property q × Each property run
+Each property (x ∷ xs) = property x × Each property xs
 
--- what a bound on a run says, multiplied out by 4 × 10^16: its sum lies less than the bound above and below its exact energy
-pub record Within (bound yearly carry : ℕ) (run : List Quarter) : Type 0 where
-  pub above : 4 * 10 ^ 16 * sum (figures yearly (powers run) carry) < exactSum yearly run + bound
-  pub below : exactSum yearly run < 4 * 10 ^ 16 * sum (figures yearly (powers run) carry) + bound
+-- what a bound on a run says, multiplied out by 4 × 10^16: its sum in Wh lies less than the bound above and below its exact energy
+pub record Within (bound exact total : ℕ) : Type 0 where
+  pub above : 4 * 10 ^ 16 * total < exact + bound
+  pub below : exact < 4 * 10 ^ 16 * total + bound
 
 -- households: "less than 1 Wh + its static energy (factor left out) / 20,000 + n × A / 80,000 Wh"
 abbrev pub householdBound : ℕ → List Quarter → ℕ
@@ -61,5 +61,5 @@ Undynamised q = q .power * 10 ^ 12 ≡ q .value * q .exact
 unfoldable pub Bounded : Type 0
 Bounded =
     (yearly carry : ℕ) (run : List Quarter) → carry < 40_000 →
-    (Each Rounded run → Within (householdBound yearly run) yearly carry run)
-    × (Each Undynamised run → Within otherBound yearly carry run)
+    (Each Rounded run → Within (householdBound yearly run) (exactSum yearly run) (sum (figures yearly (powers run) carry)))
+    × (Each Undynamised run → Within otherBound (exactSum yearly run) (sum (figures yearly (powers run) carry)))

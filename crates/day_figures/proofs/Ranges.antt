@@ -90,7 +90,7 @@ ranges Forward day h = parts 8 12 96 day h
 ranges Back day h = parts 12 8 96 day h
 
 -- stores of one list and then of another, behind it
-sets-append : (out first second : List ℕ) (at : ℕ) → sets out at (first ++ second) ≡ sets (sets out at first) (at + length first) second
+pub sets-append : (out first second : List ℕ) (at : ℕ) → sets out at (first ++ second) ≡ sets (sets out at first) (at + length first) second
 sets-append out [] second at = rw (add-zero at)
 sets-append out (x ∷ first) second at =
     let next : suc at + length first ≡ at + suc (length first) = omega arith in
@@ -112,7 +112,7 @@ module _ (one two : List ℕ) {yearly carry : ℕ} {before middle after : List �
   joined-carry = (rw (f .carryIs) at (g .carryIs)) ∙ sym (carry-append yearly one two carry)
 
 -- stores as a contract says them
-stored : (figs before : List ℕ) (at n : ℕ) → length figs ≡ n → at + n ≤ length before →
+pub stored : (figs before : List ℕ) (at n : ℕ) → length figs ≡ n → at + n ≤ length before →
     sets before at figs ≡ take at before ++ (figs ++ drop (at + n) before)
 stored figs before at n e h = rw (← e) (sets-eq figs before at (rw e h) ∙ append-assoc (take at before) figs (drop (at + length figs) before))
 

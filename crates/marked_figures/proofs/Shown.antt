@@ -1,13 +1,16 @@
--- The marked days and figures, shown of the definitions: each is computed.
+-- The marked days and figures, shown of the definitions: each is computed, and a series has as many quarter hours as its days
+-- have values.
 -- Assumes nothing.
-use mathlib.Core.Path.{refl}
+use mathlib.Core.Path.{refl, _∙_}
 use Rattle.calendar.specs.Dates.{leapDays, monthLength, daysOfMonths, dayOfYear, daysOfYears, dayNumber, weekdayOf, nextDay}
-use Rattle.calendar.specs.Days.{season, listed, dayType, lastSunday, clock, valuesOfDays}
+use Rattle.calendar.specs.Days.{season, listed, dayType, lastSunday, clock, positions, valuesOfDays}
 use Rattle.dynamisation.specs.Dynamisation.{householdX, X, F, Q}
+use Rattle.carry.specs.Carry.{figures, lastCarry}
+use Rattle.series.proofs.SeriesLaws.{length-quarters}
 use Rattle.marked_figures.specs.MarkedFigures.{MarkedFigures}
 
 pub marked-figures : MarkedFigures
-unfolding householdX X F Q leapDays monthLength daysOfMonths dayOfYear daysOfYears dayNumber weekdayOf nextDay season listed dayType lastSunday clock valuesOfDays
+unfolding householdX X F Q leapDays monthLength daysOfMonths dayOfYear daysOfYears dayNumber weekdayOf nextDay season listed dayType lastSunday clock positions valuesOfDays figures lastCarry
 marked-figures =
     record {
       t-1 = record { exact = refl; rounded = refl };
@@ -30,4 +33,11 @@ marked-figures =
       clockForward = refl;
       clockBack = refl;
       year-2000 = refl;
+      seriesForward = λ values group holidays h. length-quarters values group holidays 1 _ h ∙ refl;
+      seriesBack = λ values group holidays h. length-quarters values group holidays 1 _ h ∙ refl;
+      series-2000 = λ values group holidays h. length-quarters values group holidays 366 _ h ∙ refl;
+      octoberOrder = refl;
+      marchOrder = refl;
+      carryStep = refl;
+      carryLeft = refl;
     }

@@ -1,13 +1,18 @@
--- Document 01, "Marked days and figures", in its order. The carry step joins with expanding.
+-- Document 01, "Marked days and figures", in its order.
 use mathlib.Core.Path.{_≡_}
-use mathlib.Core.List.{[]}
-use Prim.Native.Nat.{ℕ}
+use mathlib.Core.List.{List, [], _∷_, _++_}
+use Prim.Native.Nat.{ℕ, zero, suc}
 use lib.IntN.{pos}
+use lib.ListN.{length, drop}
 use Rattle.calendar.specs.declared.days.Season.{Season}
 use Rattle.calendar.specs.declared.days.DayType.{DayType}
 use Rattle.calendar.specs.Dates.{dateOf, dayOfYear, weekdayOf}
-use Rattle.calendar.specs.Days.{season, dayType, valueCount, valuesOfDays}
+use Rattle.calendar.specs.declared.days.Clock.the-variants.{Forward, Back}
+use Rattle.calendar.specs.Days.{season, dayType, positions, valueCount, valuesOfDays}
 use Rattle.dynamisation.specs.Dynamisation.{X, F, Q}
+use Rattle.carry.specs.Carry.{figures, lastCarry}
+use Rattle.day_powers.specs.DayQuarters.{dayQuarters}
+use Rattle.series.specs.Series.{quartersOfDays}
 
 -- "X and F" of the households, group code 0
 pub record Factor (t x f : ℕ) : Type 0 where
@@ -23,6 +28,17 @@ pub record DayIs (date weekday : ℕ) (s : Season) (d : DayType) : Type 0 where
   pub isWeekday : weekdayOf (dateOf date) ≡ weekday
   pub isSeason : season (dateOf date) ≡ s
   pub isDayType : dayType (dateOf date) [] ≡ d
+
+-- 0, 1, 2, .. below n
+abbrev pub upTo : ℕ → List ℕ
+upTo zero = []
+upTo (suc n) = upTo n ++ (n ∷ [])
+
+-- how many quarter hours the series of some days from a date on has, whatever the group, its 864 values and the list
+abbrev pub SeriesHas : ℕ → ℕ → ℕ → Type 0
+SeriesHas days date count =
+    (values : List ℕ) (group : ℕ) (holidays : List ℕ) → length values ≡ 864 →
+    length (quartersOfDays (dayQuarters values group holidays) days (dateOf date)) ≡ count
 
 pub record MarkedFigures : Type 0 where
   pub t-1 : Factor 1 1_242_030_119_608 12_420
@@ -50,3 +66,12 @@ pub record MarkedFigures : Type 0 where
   pub clockForward : valueCount (dateOf 20000326) ≡ 92
   pub clockBack : valueCount (dateOf 20001029) ≡ 100
   pub year-2000 : valuesOfDays 366 (dateOf 20000101) ≡ 35_136
+  pub seriesForward : SeriesHas 1 20000326 92
+  pub seriesBack : SeriesHas 1 20001029 100
+  pub series-2000 : SeriesHas 366 20000101 35_136
+  -- "repeats positions 8 to 11 directly after position 11", of a day whose positions are numbered
+  pub octoberOrder : positions Back (upTo 96) ≡ upTo 12 ++ (8 ∷ 9 ∷ 10 ∷ 11 ∷ drop 12 (upTo 96))
+  pub marchOrder : positions Forward (upTo 96) ≡ upTo 8 ++ drop 12 (upTo 96)
+  -- "Q = 1001, A = 1000, carry 39,999: 26 Wh, carry 999."
+  pub carryStep : figures 1_000 (1_001 ∷ []) 39_999 ≡ 26 ∷ []
+  pub carryLeft : lastCarry 1_000 (1_001 ∷ []) 39_999 ≡ 999

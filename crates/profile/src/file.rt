@@ -27,7 +27,7 @@ pub enum Found {
 }
 
 // The 16-bit number that begins at `at`.
-pub(crate) fn word_at(file: &[u8], at: usize) -> u32
+pub fn word_at(file: &[u8], at: usize) -> u32
     requires { ⌜ at + 2 ≤ length (now file) ⌝ }
     ensures { λ r. ⌜ (r ≡ wordAt (now (file .entry)) at) × (r < 65_536) ⌝ }
 {

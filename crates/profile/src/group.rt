@@ -10,7 +10,7 @@ ghost use Rattle.profile.specs.Calls.{Located};
 ghost use Rattle.profile.specs.Inside.{LaidOut, ValuesOf};
 
 // Where the group's code stands, in a file of the length that its header says.
-pub(crate) fn find(file: &[u8], group: u8) -> Found
+pub fn find(file: &[u8], group: u8) -> Found
     requires { ⌜ LaidOut (layoutOf (now file)) (now file) ⌝ }
     ensures { λ r. ⌜ r ≡ groupIn (now (file .entry)) group ⌝ }
 {
@@ -43,7 +43,7 @@ pub fn check(file: &[u8], group: u8) -> Verdict
 }
 
 // The value bytes of the profile whose code stands at `at`.
-pub(crate) fn values_of(file: &[u8], at: usize) -> &[u8]
+pub fn values_of(file: &[u8], at: usize) -> &[u8]
     requires { ⌜ LaidOut (layoutOf (now file)) (now file) ⌝ }
     requires { ⌜ at + profileLength (layoutOf (now file)) ≤ length (now file) ⌝ }
     ensures { λ r. ⌜ ValuesOf (file .entry) at r ⌝ }

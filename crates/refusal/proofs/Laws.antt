@@ -55,6 +55,10 @@ then-refused (Refused r) next h = refl
 pub stops : {v question : Verdict} (next : Verdict) → v ≡ question → IsRefused v → v ≡ (question then next)
 stops {v} next e t = rw (← e) (sym (then-refused v next t))
 
+-- a check goes on to the next question after one that passed
+pub goes-on : {v question answer next : Verdict} → v ≡ question → IsPass v → answer ≡ next → answer ≡ (question then next)
+goes-on {v} e t h = h ∙ sym (then-pass _ (sym e ∙ passed v t))
+
 -- What is answered, or left in memory, on a refusal.
 pub on-refused : {A : Type 0} (v : Verdict) (a b : A) → IsRefused v → onPass v a b ≡ b
 on-refused Pass a b h = passed-not-refused h

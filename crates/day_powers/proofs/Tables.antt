@@ -1,0 +1,75 @@
+-- A day table: which of the nine it is, that it has 96 values, each of them and its power, and where its bytes stand.
+-- Assumes nothing.
+use mathlib.Core.Path.{_≡_, _∙_, ap}
+use mathlib.Core.List.{List}
+use Prim.Native.Nat.{ℕ, _+_, _*_, _≤_, _<_}
+use native.Mathlib.Numerals.{add-one}
+use native.Mathlib.Omega.{arith}
+use lib.ListN.{length, take, drop, getD, set, length-take, length-drop, length-map, List·getD-map}
+use lib.Seq.{getD-take, getD-drop, take-all, take-suc, take-suc-set}
+use Rattle.calendar.specs.declared.days.Season.{Season}
+use Rattle.calendar.specs.declared.days.Season.the-variants.{Winter, Summer, Transition}
+use Rattle.calendar.specs.declared.days.DayType.{DayType}
+use Rattle.calendar.specs.declared.days.DayType.the-variants.{Weekday, Saturday, Sunday}
+use Rattle.enquiry.specs.Enquiry.{seasonFigure, dayTypeFigure}
+use Rattle.dynamisation.specs.Dynamisation.{Q}
+use Rattle.profile.specs.File.{wordAt}
+use Rattle.profile.specs.Inside.{wordsOf}
+use Rattle.profile.proofs.Words.{length-words, getD-words}
+use Rattle.day_powers.specs.DayTable.{tableAt, TableInside}
+use Rattle.day_powers.specs.DayQuarters.{powersBy}
+
+-- both figures are 1 to 3
+abbrev OneToThree : ℕ → Type 0
+OneToThree n = (1 ≤ n) × (n ≤ 3)
+
+season-figure : (s : Season) → OneToThree (seasonFigure s)
+season-figure Winter = (omega arith, omega arith)
+season-figure Summer = (omega arith, omega arith)
+season-figure Transition = (omega arith, omega arith)
+
+day-type-figure : (d : DayType) → OneToThree (dayTypeFigure d)
+day-type-figure Weekday = (omega arith, omega arith)
+day-type-figure Saturday = (omega arith, omega arith)
+day-type-figure Sunday = (omega arith, omega arith)
+
+pub figures : (s : Season) (d : DayType) → OneToThree (seasonFigure s) × OneToThree (dayTypeFigure d)
+figures s d = (season-figure s, day-type-figure d)
+
+pub length-table : (index : ℕ) (values : List ℕ) → (index + 1) * 96 ≤ length values → length (tableAt index values) ≡ 96
+length-table index values h = simp (length-take, length-drop) (omega arith)
+
+-- each power; behind the last one both sides are 0
+pub getD-powers : (f : ℕ) (values : List ℕ) (i : ℕ) → getD (powersBy f values) i 0 ≡ Q (getD values i 0) f
+unfolding Q
+getD-powers f values i =
+    let none : 0 ≡ Q 0 f = omega arith in
+    ap (getD (powersBy f values) i) none ∙ List·getD-map (λ p. Q p f) values i 0
+
+module _ {index : ℕ} {part : List ℕ} (t : TableInside index part) where
+  pub length-powers : (f : ℕ) → length (powersBy f (tableAt index (wordsOf part))) ≡ 96
+  length-powers f =
+      let inside = t .inside in
+      length-map (tableAt index (wordsOf part)) (λ p. Q p f) ∙ length-table index (wordsOf part) (rw length-words (omega arith))
+
+  -- the value of position i
+  module _ (i : ℕ) {at : ℕ} (h : i < 96) (e : at ≡ index * 192 + i * 2) where
+    word : getD (wordsOf part) (index * 96 + i) 0 ≡ wordAt part at
+    word =
+        let inside = t .inside in
+        let place : 0 + (index * 96 + i) * 2 ≡ at = omega arith in
+        getD-words part _ 0 (index * 96 + i) 0 (omega arith) ∙ ap (wordAt part) place
+
+    pub word-small : wordAt part at ≤ 20_000
+    word-small = omega (arith, word, t .small (index * 96 + i))
+
+    pub power-at : (f : ℕ) → getD (powersBy f (tableAt index (wordsOf part))) i 0 ≡ Q (wordAt part at) f
+    power-at f = rw (getD-powers, getD-take 96 (drop (index * 96) (wordsOf part)) i 0 h, getD-drop, word)
+
+-- the powers stored so far are those wanted: one more, and all
+pub one-more : (i : ℕ) (powers want : List ℕ) {q : ℕ} → i < length powers → i < length want → getD want i 0 ≡ q → take i powers ≡ take i want →
+    take (i + 1) (set powers i q) ≡ take (i + 1) want
+one-more i powers want h k e so = rw (add-one, take-suc-set powers i, take-suc want i 0, so, e)
+
+pub all-stored : (i : ℕ) (powers want : List ℕ) → length powers ≤ i → length want ≤ i → take i powers ≡ take i want → powers ≡ want
+all-stored i powers want h k so = rw (take-all i powers, take-all i want) at so

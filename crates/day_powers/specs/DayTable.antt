@@ -1,0 +1,28 @@
+-- Document 01, "The profile file": "Values stand in the order winter, summer, transition; in each season weekday, Saturday, Sunday;
+-- in each day 96 values". Which of a group's values are a day's.
+use mathlib.Core.List.{List}
+use Prim.Native.Nat.{ℕ, _+_, _-_, _*_, _≤_}
+use lib.ListN.{length, take, drop, getD}
+use Rattle.calendar.specs.declared.dates.Date.{Date}
+use Rattle.calendar.specs.declared.days.Season.{Season}
+use Rattle.calendar.specs.declared.days.DayType.{DayType}
+use Rattle.calendar.specs.Days.{season, dayType}
+use Rattle.profile.specs.Inside.{wordsOf}
+use Rattle.enquiry.specs.Enquiry.{seasonFigure, dayTypeFigure}
+
+-- which of the nine day tables, from 0
+abbrev pub tableIndex : Season → DayType → ℕ
+tableIndex s d = (seasonFigure s - 1) * 3 + (dayTypeFigure d - 1)
+
+-- the 96 values of a day table
+abbrev pub tableAt : ℕ → List ℕ → List ℕ
+tableAt index values = take 96 (drop (index * 96) values)
+
+-- the 96 values of a day, out of its group's values
+unfoldable pub dayValues : List ℕ → List ℕ → Date → List ℕ
+dayValues values holidays d = tableAt (tableIndex (season d) (dayType d holidays)) values
+
+-- what is asked of the bytes of a group's values: the day table lies inside, and no value is above 20,000
+pub record TableInside (index : ℕ) (part : List ℕ) : Type 0 where
+  pub inside : (index + 1) * 192 ≤ length part
+  pub small : (i : ℕ) → getD (wordsOf part) i 0 ≤ 20_000

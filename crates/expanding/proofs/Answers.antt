@@ -1,0 +1,71 @@
+-- What each way through expanding comes to, over a request. Assumes nothing.
+use mathlib.Core.Path.{_≡_, refl, sym, _∙_, ap}
+use mathlib.Core.List.{List}
+use Prim.Native.Nat.{ℕ, _≤_, _<_}
+use borrow.Author.Tests.{le-leb, lt-leb}
+use lib.ListN.{length, length-map}
+use Rattle.refusal.specs.declared.Refusal.the-variants.{ShortOutput}
+use Rattle.refusal.specs.declared.Verdict.{Verdict}
+use Rattle.refusal.specs.declared.Verdict.the-variants.{Pass, Refused}
+use Rattle.refusal.specs.Verdict.{_then_}
+use Rattle.refusal.proofs.Laws.{IsRefused, passed-not-refused, stops, then-pass, ask-yes, ask-no}
+use Rattle.calendar.specs.Dates.{dateOf}
+use Rattle.calendar.specs.Days.{valuesOfDays}
+use Rattle.calendar.specs.Holidays.{holidaysQuestion}
+use Rattle.profile.specs.File.{layoutOf, check, tableOf}
+use Rattle.profile.proofs.Tables.{table-length}
+use Rattle.period.specs.Period.{periodCheck}
+use Rattle.carry.specs.Energy.{powers}
+use Rattle.carry.proofs.Joining.{length-figures}
+use Rattle.series.specs.declared.Totals.{Totals}
+use Rattle.series.specs.Loop.{Filled}
+use Rattle.series.proofs.SeriesLaws.{length-quarters}
+use Rattle.expanding.specs.declared.Expansion.{Expansion}
+use Rattle.expanding.specs.Expanding.{Request, daysIn, quarters, series, totals, useQuestion, carryQuestion, requestCheck, outputQuestion, expandCheck, expansion, outputAfter, Expands}
+
+-- questions 7 to 11
+abbrev pub othersCheck : Request → Verdict
+othersCheck q =
+    periodCheck (q .first) (q .last) then holidaysQuestion (q .holidays) then useQuestion (q .yearly) then carryQuestion (q .carry)
+
+module _ (q : Request) where
+  refused : (v : Verdict) → v ≡ expandCheck q → IsRefused v → Expands q (Expansion.Refused v) (q .output)
+  unfolding expansion outputAfter
+  refused Pass e t = passed-not-refused t
+  refused (Refused r) e t = record { answers = rw (← e); leaves = rw (← e) }
+
+  -- by questions 1 to 6
+  pub file-refused : {v : Verdict} → v ≡ check (q .file) (q .group) → IsRefused v → Expands q (Expansion.Refused v) (q .output)
+  unfolding expandCheck
+  file-refused e t = refused _ (stops _ (stops _ e t) t) t
+
+  -- by questions 7 to 11
+  pub others-refused : {v : Verdict} → check (q .file) (q .group) ≡ Pass → v ≡ othersCheck q → IsRefused v → Expands q (Expansion.Refused v) (q .output)
+  unfolding expandCheck
+  others-refused p e t = refused _ (stops _ (e ∙ sym (then-pass _ p)) t) t
+
+  -- by question 12
+  pub output-refused : {needed : ℕ} → requestCheck q ≡ Pass → needed ≡ length (series q) → length (q .output) < needed → Expands q (Expansion.Refused (Refused (ShortOutput needed))) (q .output)
+  unfolding expandCheck
+  output-refused {needed} p e l =
+      let short : length (q .output) < length (series q) = rw (← e) l in
+      refused _ (ap (λ (n : ℕ). Refused (ShortOutput n)) e ∙ sym (then-pass _ p ∙ ask-no _ (lt-leb _ _ short))) refl
+
+  -- by none
+  pub expanded : {t : Totals} {after : List ℕ} → requestCheck q ≡ Pass → length (series q) ≤ length (q .output) → Filled (q .yearly) (powers (quarters q)) (q .carry) (q .output) t after → Expands q (Expansion.Expanded t) after
+  unfolding expandCheck expansion outputAfter series
+  expanded {t} {after} p l f =
+      let pass : expandCheck q ≡ Pass = then-pass (outputQuestion q) p ∙ ask-yes _ (le-leb _ _ l) in
+      let n = length-figures (q .yearly) (powers (quarters q)) (q .carry) in
+      record { answers = rw (pass, f .totals, n); leaves = rw (pass, f .stored, n) }
+
+  -- "entries needed"
+  pub series-length : length (series q) ≡ length (quarters q)
+  unfolding series
+  series-length = length-figures (q .yearly) (powers (quarters q)) (q .carry) ∙ length-map (quarters q) _
+
+  pub entries-needed : length (series q) ≡ valuesOfDays (daysIn q) (dateOf (q .first))
+  unfolding layoutOf
+  entries-needed =
+      series-length
+      ∙ length-quarters (tableOf (q .file) (q .group)) (q .group) (q .holidays) (daysIn q) (dateOf (q .first)) (table-length (q .file) (q .group))

@@ -1,0 +1,19 @@
+-- `expanding::carry_question` meets its contract: the test says which way the question goes.
+-- Assumes nothing.
+use mathlib.Core.Path.{sym}
+use borrow.Author.Tests.{le-leb, lt-leb}
+use Rattle.refusal.proofs.Laws.{ask-yes, ask-no}
+use Rattle.expanding.specs.Expanding.{carryQuestion}
+use Rattle.expanding.proofs.carry_question.Statement.{statement}
+use Rattle.expanding.proofs.carry_question.Tie as tie
+
+returns : tie.Need-returns
+unfolding carryQuestion
+returns c = sym (ask-no _ (lt-leb _ _ (c .if1 .taken)))
+
+returns-2 : tie.Need-returns-2
+unfolding carryQuestion
+returns-2 c = sym (ask-yes _ (le-leb _ _ (c .if1 .left)))
+
+pub carry-question-spec : {M : Type 1} → statement M
+carry-question-spec = tie.close (tie.spec returns returns-2)

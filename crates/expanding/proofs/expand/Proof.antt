@@ -1,0 +1,224 @@
+-- `expanding::expand` meets its contract: each refusal changes nothing, and else the period's figures fill the output.
+-- Assumes nothing.
+use mathlib.Core.Path.{_≡_, refl, sym, _∙_, ap}
+use Prim.Native.Nat.{ℕ, _≤_}
+use native.Mathlib.Omega.{arith}
+use lib.ListN.{length}
+use mathlib.Core.Bool.{true}
+use borrow.Author.Needs.{needs}
+use Rattle.refusal.specs.declared.Verdict.the-variants.{Pass}
+use Rattle.refusal.proofs.Laws.{stops, then-pass}
+use Rattle.calendar.specs.declared.dates.Date.{Date}
+use Rattle.calendar.specs.Dates.{dateOf, isDate, dayNumber}
+use Rattle.calendar.specs.Days.{valuesOfDays}
+use Rattle.profile.specs.declared.file.Found.the-variants.{At}
+use Rattle.profile.specs.File.{groupIn, fileCheck}
+use Rattle.profile.specs.Inside.{wordsOf}
+use Rattle.profile.proofs.Accepted.{accepted}
+use Rattle.profile.proofs.Finding.{check-found, check-missing, found-inside}
+use Rattle.profile.proofs.Tables.{PartOf, part-of}
+use Rattle.period.specs.declared.CalendarDay.{CalendarDay}
+use Rattle.period.specs.CalendarDay.{calendarDay}
+use Rattle.period.specs.Period.{daysOf}
+use Rattle.period.proofs.Days.{Period}
+use Rattle.day_powers.specs.DayQuarters.{dayQuarters}
+use Rattle.series.specs.Series.{quartersOfDays}
+use Rattle.series.specs.Loop.{RealDays}
+use Rattle.expanding.specs.Expanding.{Request, request, daysIn, quarters, series, requestCheck}
+use Rattle.expanding.proofs.Accepted.{sound}
+use Rattle.expanding.proofs.Answers.{file-refused, others-refused, output-refused, expanded, series-length, entries-needed}
+use Rattle.expanding.proofs.Given.{group-part, real-days, same-quarters}
+use Rattle.expanding.proofs.expand.Statement.{statement}
+use Rattle.expanding.proofs.expand.Tie as tie
+
+-- what the call was given
+abbrev given : tie.Start → Request
+given s = request (s .args .file .now) (s .args .group) (s .args .first) (s .args .last) (s .args .holidays .now) (s .args .yearly) (s .args .carry) (s .args .out .now)
+
+-- questions 1 to 5 passed
+abbrev of-file : tie.After-enum-told → tie.Start
+of-file c = c .before .before .before .before .before .before
+
+file-passed : (c : tie.After-enum-told) → fileCheck (given (of-file c) .file) ≡ Pass
+file-passed c = sym (c .before .before .check-file .ensures) ∙ c .enum-told .given .1
+
+-- the group was found
+abbrev of-group : tie.After-at → tie.After-enum-told
+of-group c = c .before .before .before
+
+found : (c : tie.After-at) → groupIn (given (of-file (of-group c)) .file) (given (of-file (of-group c)) .group) ≡ At (c .at .given .0 .0)
+found c = sym (c .before .before .find .ensures) ∙ c .at .given .1
+
+-- questions 7 to 11 passed
+abbrev of-request : tie.After-enum-told4 → tie.After-at
+of-request c = c .before .before .before .before
+
+abbrev asked : tie.After-enum-told4 → Request
+asked c = given (of-file (of-group (of-request c)))
+
+request-passed : (c : tie.After-enum-told4) → requestCheck (asked c) ≡ Pass
+request-passed c =
+    then-pass _ (check-found _ _ (file-passed (of-group (of-request c))) (found (of-request c)))
+    ∙ (sym (c .before .before .period-and-use-questions .ensures) ∙ c .enum-told4 .given .1)
+
+-- the first day, the number of days and the entries needed
+abbrev of-day : tie.After-calendar-day → tie.After-enum-told4
+of-day c = c .before .before .before .before
+
+day-is : (c : tie.After-calendar-day) → c .calendar-day .result ≡ calendarDay (dateOf (asked (of-day c) .first))
+day-is c = c .calendar-day .ensures ∙ ap calendarDay (c .before .before .before .date-of .ensures)
+
+days-are : (c : tie.After-calendar-day) → c .before .days-of .result ≡ daysIn (asked (of-day c))
+days-are c =
+    c .before .days-of .ensures ∙ both-dates (c .before .before .before .date-of .ensures) (c .before .before .date-of2 .ensures)
+  where
+    both-dates : {a b d e : Date} → a ≡ d → b ≡ e → daysOf a b ≡ daysOf d e
+    both-dates h k = rw (h, k)
+
+real : (c : tie.After-calendar-day) → RealDays (c .calendar-day .result) (c .before .days-of .result)
+real c = real-days (asked (of-day c)) _ _ (sound _ (request-passed (of-day c))) (day-is c) (days-are c)
+
+abbrev of-count : tie.After-values-of-days → tie.After-enum-told4
+of-count c = of-day (c .before)
+
+needed-is : (c : tie.After-values-of-days) → c .values-of-days .result ≡ length (series (asked (of-count c)))
+needed-is c =
+    c .values-of-days .ensures ∙ same (day-is (c .before)) (days-are (c .before)) ∙ sym (entries-needed (asked (of-count c)))
+  where
+    same : {day e : CalendarDay} {days m : ℕ} → day ≡ e → days ≡ m → valuesOfDays days (day .date) ≡ valuesOfDays m (e .date)
+    same h k = rw (h, k)
+
+-- the group's part of the file
+abbrev of-part : tie.After-values-of → tie.After-values-of-days
+of-part c = c .before .before
+
+abbrev wanted : tie.After-values-of → Request
+wanted c = asked (of-count (of-part c))
+
+part : (c : tie.After-values-of) → PartOf (wanted c .file) (wanted c .group) (c .values-of .result .now)
+part c =
+    let at = of-request (of-count (of-part c)) in
+    part-of _ _ _ (file-passed (of-group at)) (found at) (c .values-of .ensures .bytes)
+
+quarters-are : (c : tie.After-values-of) → quartersOfDays (dayQuarters (wordsOf (c .values-of .result .now)) (wanted c .group) (wanted c .holidays)) (of-part c .before .before .days-of .result) (of-part c .before .calendar-day .result .date) ≡ quarters (wanted c)
+quarters-are c = same-quarters (wanted c) _ _ _ (part c) (day-is (of-part c .before)) (days-are (of-part c .before))
+
+room : (c : tie.After-values-of) → length (series (wanted c)) ≤ length (wanted c .output)
+room c = omega (arith, needed-is (of-part c), c .before .if1 .left)
+
+fits : (c : tie.After-values-of) → length (quartersOfDays (dayQuarters (wordsOf (c .values-of .result .now)) (wanted c .group) (wanted c .holidays)) (of-part c .before .before .days-of .result) (of-part c .before .calendar-day .result .date)) ≤ length (wanted c .output)
+fits c = omega (arith, ap length (quarters-are c), series-length (wanted c), room c)
+
+dates : {first last : ℕ} {a b : Date} → a ≡ dateOf first → b ≡ dateOf last → Period first last → ((isDate a ≡ true) × (isDate b ≡ true)) × (dayNumber a ≤ dayNumber b)
+dates h k p = rw (h, k) ((p .dates-first, p .dates-last), p .ordered)
+
+check-file-requires : tie.Need-check-file-requires
+check-file-requires c κs = search needs
+
+enum-told : tie.Need-enum-told
+enum-told c = search needs
+
+enum-told-2 : tie.Need-enum-told-2
+enum-told-2 c = search needs
+
+returns : tie.Need-returns
+returns c = file-refused (given (c .before .before .before .before .before .before)) (stops _ (c .before .before .check-file .ensures) (c .before .match .keys2)) (c .before .match .keys2)
+
+find-requires : tie.Need-find-requires
+find-requires c κs = accepted _ (file-passed c) .headed .laid
+
+enum-known-at : tie.Need-enum-known-at
+enum-known-at c = search needs
+
+enum-told-3 : tie.Need-enum-told-3
+enum-told-3 c = search needs
+
+returns-2 : tie.Need-returns-2
+returns-2 c =
+    let f = c .before .before in
+    file-refused (given (of-file (f .before))) (sym (check-missing _ _ (file-passed (f .before)) (sym (f .find .ensures) ∙ c .enum-told3 .given .1))) refl
+
+period-and-use-questions-requires : tie.Need-period-and-use-questions-requires
+period-and-use-questions-requires c κs = search needs
+
+enum-told-4 : tie.Need-enum-told-4
+enum-told-4 c = search needs
+
+enum-told-5 : tie.Need-enum-told-5
+enum-told-5 c = search needs
+
+returns-3 : tie.Need-returns-3
+returns-3 c =
+    let a = c .before .before .before .before in
+    others-refused (given (of-file (of-group a))) (check-found _ _ (file-passed (of-group a)) (found a)) (c .before .before .period-and-use-questions .ensures) (c .before .match3 .keys2)
+
+date-of-requires : tie.Need-date-of-requires
+date-of-requires c κs = search needs
+
+date-of-requires-2 : tie.Need-date-of-requires-2
+date-of-requires-2 c κs = search needs
+
+days-of-requires : tie.Need-days-of-requires
+days-of-requires c κs =
+    let p = sound (asked (c .before .before)) (request-passed (c .before .before)) .period in
+    dates (c .before .date-of .ensures) (c .date-of2 .ensures) p
+
+calendar-day-requires : tie.Need-calendar-day-requires
+calendar-day-requires c κs =
+    let p = sound (asked (c .before .before .before)) (request-passed (c .before .before .before)) .period in
+    ap isDate (c .before .before .date-of .ensures) ∙ p .dates-first
+
+values-of-days-requires : tie.Need-values-of-days-requires
+values-of-days-requires c κs = let r = real c in (r .known, (r .few, r .all))
+
+returns-4 : tie.Need-returns-4
+returns-4 c =
+    output-refused (asked (of-count (c .before))) (request-passed (of-count (c .before))) (needed-is (c .before)) (c .if1 .taken)
+
+values-of-requires : tie.Need-values-of-requires
+values-of-requires c κs =
+    let at = of-request (of-count (c .before)) in
+    let laid = accepted _ (file-passed (of-group at)) .headed .laid in
+    (laid, found-inside _ _ _ laid (found at))
+
+expand-days-requires : tie.Need-expand-days-requires
+expand-days-requires c κs =
+    let v = c .before in
+    let s = sound (wanted v) (request-passed (of-count (of-part v))) in
+    let values = group-part _ _ _ (file-passed (of-group (of-request (of-count (of-part v))))) (part v) in
+    (values, (real (of-part v .before), (record { yearlySmall = s .yearly; carrySmall = s .carry }, fits v)))
+
+same-length : tie.Need-same-length
+same-length c = search needs
+
+returns-5 : tie.Need-returns-5
+returns-5 c =
+    let v = c .before .before .before .before in
+    expanded (wanted v) (request-passed (of-count (of-part v))) (room v) (rw (quarters-are v) at (c .before .before .expand-days .ensures))
+
+pub expand-spec : {M : Type 1} → statement M
+expand-spec =
+    tie.close
+    (tie.spec
+    check-file-requires
+    enum-told
+    enum-told-2
+    returns
+    find-requires
+    enum-known-at
+    enum-told-3
+    returns-2
+    period-and-use-questions-requires
+    enum-told-4
+    enum-told-5
+    returns-3
+    date-of-requires
+    date-of-requires-2
+    days-of-requires
+    calendar-day-requires
+    values-of-days-requires
+    returns-4
+    values-of-requires
+    expand-days-requires
+    same-length
+    returns-5)

@@ -1,0 +1,3 @@
+pub mod SeriesLaws
+pub mod OneDay
+pub mod DayByDay

@@ -1,0 +1,104 @@
+-- One real day: its weekday and t, its factor and its table, its powers, none above 40,000, and its figures stored behind those before.
+-- Assumes nothing.
+use mathlib.Core.Path.{_≡_, sym, _∙_, ap}
+use mathlib.Core.Bool.{true}
+use mathlib.Core.List.{List}
+use Prim.Native.Nat.{ℕ, _+_, _^_, _≤_, _<_}
+use native.Mathlib.Omega.{arith}
+use lib.ListN.{length, getD, length-map}
+use Rattle.calendar.specs.declared.days.Season.{Season}
+use Rattle.calendar.specs.declared.days.DayType.{DayType}
+use Rattle.calendar.specs.declared.days.Clock.{Clock}
+use Rattle.calendar.specs.declared.dates.Date.{Date}
+use Rattle.calendar.specs.Dates.{isDate, dayOfYear, weekdayOf}
+use Rattle.calendar.specs.Days.{season, dayType, clock, positions, valuesUnder}
+use Rattle.calendar.proofs.DateLaws.{day-of-year-range, leap-small}
+use Rattle.period.specs.declared.CalendarDay.{CalendarDay}
+use Rattle.dynamisation.specs.Dynamisation.{F}
+use Rattle.dynamisation.proofs.Days.{Day}
+use Rattle.dynamisation.proofs.Whole.{F-small}
+use Rattle.carry.specs.Carry.{figures, sum}
+use Rattle.carry.specs.Energy.{powers}
+use Rattle.carry.proofs.Joining.{length-figures}
+use Rattle.profile.specs.Inside.{wordsOf}
+use Rattle.profile.proofs.Words.{length-words}
+use Rattle.day_powers.specs.DayTable.{tableIndex, tableAt, dayValues}
+use Rattle.day_powers.specs.DayQuarters.{powersBy, dayQuarters}
+use Rattle.day_powers.proofs.Quarters.{powers-small, length-day-quarters, day-powers-positions}
+use Rattle.day_figures.specs.declared.Carried.{Carried}
+use Rattle.day_figures.specs.Day.{SmallPowers, DayCarried}
+use Rattle.day_figures.proofs.Ranges.{stored}
+use Rattle.series.specs.declared.Totals.{Totals}
+use Rattle.series.specs.Loop.{GroupPart, InRange, RealDay, Room, Added}
+
+-- the t of a date
+in-year : (d : Date) → isDate d ≡ true → Day (dayOfYear d)
+in-year d h =
+    let range = day-of-year-range d h in
+    (range .0, omega (arith, leap-small (d .year)))
+
+-- what a day knows of itself
+module _ {day : CalendarDay} (real : RealDay day) where
+  pub own-weekday : day .weekday ≡ weekdayOf (day .date)
+  own-weekday = ap (λ (x : CalendarDay). x .weekday) (real .known)
+
+  own-t : day .t ≡ dayOfYear (day .date)
+  own-t = ap (λ (x : CalendarDay). x .t) (real .known)
+
+  pub t-in-year : Day (day .t)
+  t-in-year = rw own-t (in-year (day .date) (real .isDate))
+
+  -- the factor of its t, and the table of its season and day type
+  pub own-powers : {s : Season} {k : DayType} {index f : ℕ} {all : List ℕ} (values : List ℕ) (group : ℕ) (holidays : List ℕ) →
+      s ≡ season (day .date) → k ≡ dayType (day .date) holidays → index ≡ tableIndex s k → f ≡ F group (day .t) →
+      all ≡ powersBy f (tableAt index values) → all ≡ powersBy (F group (dayOfYear (day .date))) (dayValues values holidays (day .date))
+  unfolding dayValues
+  own-powers values group holidays s k i f e = e ∙ rw (f, own-t, i, s, k)
+
+-- a day's powers, before the clock change and after it
+abbrev pub powersBefore : List ℕ → ℕ → List ℕ → Date → List ℕ
+powersBefore part group holidays d = powersBy (F group (dayOfYear d)) (dayValues (wordsOf part) holidays d)
+
+abbrev pub dayPowers : List ℕ → ℕ → List ℕ → Date → List ℕ
+dayPowers part group holidays d = powers (dayQuarters (wordsOf part) group holidays d)
+
+pub group-values : {part : List ℕ} → GroupPart part → length (wordsOf part) ≡ 864
+group-values bytes = let whole = bytes .whole in rw length-words (omega arith)
+
+module _ {part : List ℕ} (bytes : GroupPart part) (group : ℕ) (holidays : List ℕ) (d : Date) where
+  pub day-powers-small : isDate d ≡ true → (i : ℕ) → getD (powersBefore part group holidays d) i 0 ≤ 40_000
+  unfolding dayValues
+  day-powers-small h = powers-small (wordsOf part) (tableIndex (season d) (dayType d holidays)) _ (bytes .small) (F-small group (dayOfYear d) (in-year d h))
+
+  -- with the day's powers and its clock
+  module _ {all : List ℕ} {c : Clock} (e : all ≡ powersBefore part group holidays d) (k : c ≡ clock d) where
+    changed : positions c all ≡ dayPowers part group holidays d
+    changed = rw (e, k) (sym (day-powers-positions (wordsOf part) group holidays d))
+
+    counted : length (dayPowers part group holidays d) ≡ valuesUnder c
+    counted = rw k (length-map (dayQuarters (wordsOf part) group holidays d) _ ∙ length-day-quarters (wordsOf part) group holidays d (group-values bytes))
+
+    module _ {yearly : ℕ} {before : Totals} {out : List ℕ} (room : Room yearly (dayPowers part group holidays d) before out) where
+      pub carry-asked : isDate d ≡ true → InRange yearly (before .carry) → SmallPowers all yearly (before .carry) × (before .count + valuesUnder c ≤ length out)
+      carry-asked h range =
+          let entries = room .entries in
+          let n = counted in (
+            record { small = rw e (day-powers-small h); yearlySmall = range .yearlySmall; inRange = range .carrySmall },
+            omega arith,
+          )
+
+      pub total-fits : {total : ℕ} → total ≡ sum (figures yearly (positions c all) (before .carry)) → before .total + total < 2 ^ 64
+      total-fits h = let t = room .total in omega (arith, rw changed at h)
+
+      pub added : {r : Carried} {after : List ℕ} {n : ℕ} → DayCarried all c yearly (before .carry) out (before .count) r after → n ≡ valuesUnder c → Added yearly (dayPowers part group holidays d) before out
+          (record { count = before .count + n; total = before .total + r .total; carry = r .carry }) after
+      added did same =
+          let n = counted in
+          let entries = room .entries in
+          let figs = figures yearly (dayPowers part group holidays d) (before .carry) in
+          record {
+            stored = (rw changed at (did .figuresStored)) ∙ sym (stored figs out (before .count) _ (length-figures yearly _ (before .carry) ∙ n) (omega arith));
+            count = omega arith;
+            total = omega (arith, rw changed at (did .totalIs));
+            carry = rw changed at (did .carryIs);
+          }

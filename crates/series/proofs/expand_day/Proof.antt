@@ -1,0 +1,68 @@
+-- `series::expand_day` meets its contract: the day's powers and clock are its own, and its figures follow those before (proofs/OneDay.antt).
+-- Assumes nothing.
+use native.Mathlib.Omega.{arith}
+use borrow.Author.Needs.{needs}
+use Rattle.series.proofs.OneDay.{own-weekday, carry-asked, total-fits, added}
+use Rattle.series.proofs.expand_day.Statement.{statement}
+use Rattle.series.proofs.expand_day.Tie as tie
+
+powers-on-requires : tie.Need-powers-on-requires
+powers-on-requires c κs = search needs
+
+clock-of-requires : tie.Need-clock-of-requires
+clock-of-requires c κs =
+    let real = c .before .before .before .before .pre .1 .0 in
+    (real .isDate, own-weekday real)
+
+carry-day-requires : tie.Need-carry-day-requires
+carry-day-requires c κs =
+    let asked = c .before in
+    let start = asked .before .before .before .before .before in
+    let (small, room) =
+    carry-asked (start .pre .0) (start .args .group) (start .args .holidays .now) (start .args .day .date)
+    (asked .before .powers-on .ensures) (asked .clock-of .ensures) (start .pre .1 .1 .1) (start .pre .1 .0 .isDate) (start .pre .1 .1 .0) in
+    (small, omega arith)
+
+values-under-requires : tie.Need-values-under-requires
+values-under-requires c κs = search needs
+
+cast-count : tie.Need-cast-count
+cast-count c = search needs
+
+add-count : tie.Need-add-count
+add-count c = search needs
+
+add-total : tie.Need-add-total
+add-total c =
+    let called = c .before .before .before .before .before in
+    let asked = called .before .before in
+    let start = asked .before .before .before .before .before in
+    let fits =
+    total-fits (start .pre .0) (start .args .group) (start .args .holidays .now) (start .args .day .date)
+    (asked .before .powers-on .ensures) (asked .clock-of .ensures) (start .pre .1 .1 .1) (called .carry-day .ensures .totalIs) in
+    omega arith
+
+same-length : tie.Need-same-length
+same-length c = search needs
+
+returns : tie.Need-returns
+returns c =
+    let called = c .before .before .before .before .before in
+    let asked = called .before .before in
+    let start = asked .before .before .before .before .before in
+    added (start .pre .0) (start .args .group) (start .args .holidays .now) (start .args .day .date)
+    (asked .before .powers-on .ensures) (asked .clock-of .ensures) (start .pre .1 .1 .1) (called .carry-day .ensures) (c .before .before .values-under .ensures)
+
+pub expand-day-spec : {M : Type 1} → statement M
+expand-day-spec =
+    tie.close
+    (tie.spec
+    powers-on-requires
+    clock-of-requires
+    carry-day-requires
+    values-under-requires
+    cast-count
+    add-count
+    add-total
+    same-length
+    returns)

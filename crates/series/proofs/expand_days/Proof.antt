@@ -1,0 +1,68 @@
+-- `series::expand_days` meets its contract. The invariant: the days left are real, and what is stored and the powers of the days left
+-- come to the whole (proofs/DayByDay.antt).
+-- Assumes nothing.
+use native.Mathlib.Omega.{arith}
+use Rattle.series.proofs.DayByDay.{start, kept-length, powersFrom, length-powers, whole-fits, DaysLeft, all-done, this-day, day-room, day-turn}
+use Rattle.series.proofs.expand_days.Statement.{statement}
+use Rattle.series.proofs.expand_days.Tie as tie
+
+abbrev Inv-loop : tie.InvT-loop
+Inv-loop part group days holidays yearly carry out₀ day₀ left₀ so-far₀ out day left so-far =
+    DaysLeft part group holidays yearly (powersFrom part group holidays days (day₀ .date)) carry out₀ day left so-far out
+
+abbrev μ-loop : tie.MeasureT-loop
+μ-loop part group days holidays yearly carry out₀ day₀ left₀ so-far₀ out day left so-far = left
+
+loop-holds : tie.Need-loop-holds Inv-loop μ-loop
+loop-holds c =
+    let begin = c .before .before .before in
+    let a = begin .args in
+    let range = begin .pre .1 .1 .0 in
+    let entries = length-powers (a .part .now) (a .group) (a .holidays .now) (a .days) (a .first .date) in
+    record {
+      real = begin .pre .1 .0;
+      todo = start (range .carrySmall) (omega arith) (whole-fits (begin .pre .0) (a .group) (a .holidays .now) range (begin .pre .1 .0));
+    }
+
+expand-day-requires : tie.Need-expand-day-requires Inv-loop μ-loop
+expand-day-requires c κs =
+    let l = c .before .before .loop .inv in
+    let pre = c .before .before .before .before .before .before .pre in
+    (pre .0, (this-day l (omega arith), (record { yearlySmall = pre .1 .1 .0 .yearlySmall; carrySmall = l .todo .carrySmall }, day-room l (omega arith))))
+
+day-after-requires : tie.Need-day-after-requires Inv-loop μ-loop
+day-after-requires c κs =
+    let real = this-day (c .before .before .before .before .before .loop .inv) (omega arith) in
+    (real .isDate, real .known)
+
+sub-left : tie.Need-sub-left Inv-loop μ-loop
+sub-left c = omega arith
+
+loop-less : tie.Need-loop-less Inv-loop μ-loop
+loop-less c = omega arith
+
+loop-again : tie.Need-loop-again Inv-loop μ-loop
+loop-again c =
+    let called = c .before .before .before in
+    day-turn (called .before .before .before .loop .inv) (omega arith) (called .expand-day .ensures) (c .day-after .ensures)
+
+same-length : tie.Need-same-length Inv-loop μ-loop
+same-length c = kept-length (c .before .loop .inv .todo)
+
+returns : tie.Need-returns Inv-loop μ-loop
+returns c = all-done (c .before .loop .inv) (omega arith)
+
+pub expand-days-spec : {M : Type 1} → statement M
+expand-days-spec =
+    tie.close
+    (tie.spec
+    Inv-loop
+    μ-loop
+    loop-holds
+    expand-day-requires
+    day-after-requires
+    sub-left
+    loop-less
+    loop-again
+    same-length
+    returns)

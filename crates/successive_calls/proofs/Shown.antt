@@ -1,0 +1,73 @@
+-- Demand 3: the parts put together. Assumes nothing.
+use mathlib.Core.Path.{_≡_, sym, _∙_, ap}
+use mathlib.Core.Bool.{true}
+use mathlib.Core.List.{List, [], _∷_}
+use Prim.Native.Nat.{ℕ, _<_}
+use lib.ListN.{length}
+use Rattle.carry.specs.Carry.{figures, lastCarry, sum}
+use Rattle.carry.specs.Energy.{Quarter, powers, Each}
+use Rattle.carry.proofs.Joining.{carry-small}
+use Rattle.expanding.specs.Expanding.{Request, quarters, series}
+use Rattle.expanding.proofs.Accepted.{Sound}
+use Rattle.successive_calls.specs.SuccessiveCalls.{Call, ByContract, isAccepted, accepted, joinedFigures, joinedQuarters, Common, commonOf, Successive, IsWhole, SameAsWhole, NothingJoined, Joined, SuccessiveCalls}
+use Rattle.successive_calls.proofs.Answers.{took}
+use Rattle.successive_calls.proofs.Chain.{ComesTo, comes-to, in-common}
+use Rattle.successive_calls.proofs.Whole.{quarters-in, allQuarters, covers, joined-accepted, each-sound}
+use Rattle.successive_calls.proofs.Runs.{run-within}
+use Rattle.successive_calls.proofs.Pieces.{output-alone}
+
+-- nothing is joined of no quarter hours
+none-joined : (common : Common) (start : ℕ) (calls : List Call) → ComesTo common start calls → joinedQuarters calls ≡ [] → NothingJoined start calls
+unfolding figures lastCarry sum
+none-joined common start calls c e =
+    let figs : joinedFigures calls ≡ [] = c .figuresAre ∙ ap (λ (qs : List Quarter). figures (common .yearly) (powers qs) start) e in
+    record {
+      noFigures = figs;
+      noCount = c .countsAre ∙ ap length figs;
+      noTotal = c .totalsAre ∙ ap sum figs;
+      carryStays = c .carryIs ∙ ap (λ (qs : List Quarter). lastCarry (common .yearly) (powers qs) start) e;
+    }
+
+-- the whole has the quarter hours of the accepted calls
+whole-quarters : (common : Common) (start : ℕ) (calls : List Call) (whole : Request) → Each (λ c. Sound (c .given)) calls → Successive common start calls → IsWhole common start calls whole → quarters whole ≡ allQuarters calls
+whole-quarters common start [] whole e s w = absurd w
+whole-quarters common start (c ∷ calls) whole e s w =
+    quarters-in whole common (w .0)
+    ∙ (rw (w .2, w .3) (sym (covers common start c calls e s .quartersAre)))
+
+whole-carry : (common : Common) (start : ℕ) (calls : List Call) (whole : Request) → IsWhole common start calls whole → (commonOf whole ≡ common) × (whole .carry ≡ start)
+whole-carry common start [] whole w = absurd w
+whole-carry common start (c ∷ calls) whole w = (w .0, w .1)
+
+same-as-whole : (common : Common) (start : ℕ) (calls : List Call) (whole : Call) → ComesTo common start calls → ByContract whole → isAccepted (whole .answer) ≡ true → commonOf (whole .given) ≡ common → whole .given .carry ≡ start → quarters (whole .given) ≡ joinedQuarters calls → SameAsWhole start calls whole
+same-as-whole common start calls whole c e h same begun q =
+    let t = took whole e h in
+    let ours = in-common (whole .given) common start same begun in
+    let figs : series (whole .given) ≡ joinedFigures calls = ours .0 ∙ ap (λ (qs : List Quarter). figures (common .yearly) (powers qs) start) q ∙ sym (c .figuresAre) in
+    record {
+      figuresJoin = sym (t .figuresAre ∙ figs);
+      countsAdd = c .countsAre ∙ sym (t .countIs ∙ ap length figs);
+      totalsAdd = c .totalsAre ∙ sym (t .totalIs ∙ ap sum figs);
+      lastCarryIs = c .carryIs ∙ sym (t .carryIs start ∙ ours .1 ∙ ap (λ (qs : List Quarter). lastCarry (common .yearly) (powers qs) start) q);
+    }
+
+joined : (common : Common) (start : ℕ) (calls : List Call) → start < 40_000 → Each ByContract calls → Successive common start (accepted calls) → Joined common start calls
+joined common start calls small e s =
+    let c = comes-to common start calls e s in
+    let sound = each-sound calls e in
+    let all = joined-accepted calls in
+    record {
+      nothing = λ none. none-joined common start calls c (all ∙ ap allQuarters none);
+      whole = λ w contract is h.
+          let same = whole-carry common start (accepted calls) (w .given) is in
+          same-as-whole common start calls w c contract h (same .0) (same .1)
+          (whole-quarters common start (accepted calls) (w .given) sound s is ∙ sym all);
+      figuresAre = c .figuresAre;
+      carryIs = c .carryIs;
+      carryInRange = rw (c .carryIs) (carry-small (common .yearly) start (powers (joinedQuarters calls)) small);
+      within = λ k n. rw (c .figuresAre, all) (run-within common start (accepted calls) small sound s k n);
+    }
+
+pub successive-calls : SuccessiveCalls
+unfolding SuccessiveCalls
+successive-calls = (joined, output-alone)
