@@ -2,7 +2,7 @@
 use mathlib.Core.Path.{_≡_, refl, sym, _∙_, ap}
 use mathlib.Core.Bool.{true}
 use Prim.Native.Nat.{ℕ}
-use lib.ListN.{length}
+use lib.ListN.{length, take}
 use lib.Seq.{take-append-seam}
 use Rattle.refusal.specs.declared.Verdict.{Verdict}
 use Rattle.refusal.specs.declared.Verdict.the-variants.{Pass, Refused}
@@ -36,7 +36,7 @@ took c e h = from (no-refusal (expandCheck (c .given)) (c .given) refl (sym (ap 
         let after : c .after ≡ lentAfter Pass (series q) (q .output) = e .leaves ∙ ap (λ (v : Verdict). lentAfter v (series q) (q .output)) p in
         record {
           passed = p;
-          figuresAre = rw (answer, after) (take-append-seam (series q) _);
+          figuresAre = rw answer (ap (take (length (series q))) after ∙ take-append-seam (series q) _);
           countIs = rw answer;
           totalIs = rw answer;
           carryIs = λ k. rw answer;

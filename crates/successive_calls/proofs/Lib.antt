@@ -4,3 +4,4 @@ pub mod Whole
 pub mod Runs
 pub mod Pieces
 pub mod Shown
+pub mod Listing

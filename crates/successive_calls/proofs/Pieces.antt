@@ -7,10 +7,11 @@ use Rattle.calendar.specs.declared.dates.Date.{Date}
 use Rattle.calendar.specs.Dates.{dateOf, dayNumber}
 use Rattle.period.specs.Period.{daysOf, daysLater, AllDates}
 use Rattle.period.proofs.Days.{Period, period-days, later-number}
+use Rattle.refusal.specs.declared.Verdict.{Verdict}
 use Rattle.refusal.proofs.Laws.{then-pass}
 use Rattle.profile.specs.File.{check}
 use Rattle.calendar.specs.Holidays.{holidaysQuestion}
-use Rattle.expanding.specs.Expanding.{Request, outputQuestion, expandCheck}
+use Rattle.expanding.specs.Expanding.{Request, totals, outputQuestion, expandCheck, answered, expansion}
 use Rattle.expanding.proofs.Accepted.{Sound, passes, request-sound}
 use Rattle.successive_calls.specs.SuccessiveCalls.{Call, ByContract, isAccepted, Common, Piece, OutputAlone}
 use Rattle.successive_calls.proofs.Answers.{took}
@@ -56,7 +57,8 @@ piece-sound whole piece s p =
     }
 
 pub output-alone : (whole : Call) (piece : Request) → ByContract whole → isAccepted (whole .answer) ≡ true → Piece (whole .given) piece → OutputAlone piece
-unfolding expandCheck
+unfolding expandCheck expansion
 output-alone whole piece e h p =
     let others = passes piece (piece-sound (whole .given) piece (request-sound (whole .given) (took whole e h .passed)) p) in
-    record { others = others; all = then-pass (outputQuestion piece) others }
+    let all : expandCheck piece ≡ outputQuestion piece = then-pass (outputQuestion piece) others in
+    record { others = others; answerIs = ap (λ (v : Verdict). answered v (totals piece)) all }

@@ -1,15 +1,18 @@
 -- Demand 3: the parts put together. Assumes nothing.
-use mathlib.Core.Path.{_≡_, sym, _∙_, ap}
+use mathlib.Core.Path.{_≡_, refl, sym, _∙_, ap}
 use mathlib.Core.Bool.{true}
 use mathlib.Core.List.{List, [], _∷_}
 use Prim.Native.Nat.{ℕ, _<_}
 use lib.ListN.{length}
+use Rattle.refusal.specs.declared.Verdict.{Verdict}
+use Rattle.refusal.specs.declared.Verdict.the-variants.{Pass, Refused}
+use Rattle.refusal.specs.Verdict.{onPass}
 use Rattle.carry.specs.Carry.{figures, lastCarry, sum}
 use Rattle.carry.specs.Energy.{Quarter, powers, Each}
 use Rattle.carry.proofs.Joining.{carry-small}
-use Rattle.expanding.specs.Expanding.{Request, quarters, series}
+use Rattle.expanding.specs.Expanding.{Request, quarters, series, expandCheck, expansion}
 use Rattle.expanding.proofs.Accepted.{Sound}
-use Rattle.successive_calls.specs.SuccessiveCalls.{Call, ByContract, isAccepted, accepted, joinedFigures, joinedQuarters, Common, commonOf, Successive, IsWhole, SameAsWhole, NothingJoined, Joined, SuccessiveCalls}
+use Rattle.successive_calls.specs.SuccessiveCalls.{Call, ByContract, isAccepted, accepted, figuresOf, joinedFigures, joinedQuarters, Common, commonOf, Successive, IsWhole, SameAsWhole, NothingJoined, AsDefined, JoinedCalls, SuccessiveCalls}
 use Rattle.successive_calls.proofs.Answers.{took}
 use Rattle.successive_calls.proofs.Chain.{ComesTo, comes-to, in-common}
 use Rattle.successive_calls.proofs.Whole.{quarters-in, allQuarters, covers, joined-accepted, each-sound}
@@ -51,18 +54,34 @@ same-as-whole common start calls whole c e h same begun q =
       lastCarryIs = c .carryIs ∙ sym (t .carryIs start ∙ ours .1 ∙ ap (λ (qs : List Quarter). lastCarry (common .yearly) (powers qs) start) q);
     }
 
-joined : (common : Common) (start : ℕ) (calls : List Call) → start < 40_000 → Each ByContract calls → Successive common start (accepted calls) → Joined common start calls
+-- each call by itself
+as-defined : (c : Call) → ByContract c → AsDefined c
+unfolding expansion
+as-defined c e = record { answerIs = e .answers; figuresAre = by (expandCheck (c .given)) refl }
+  where
+    by : (v : Verdict) → expandCheck (c .given) ≡ v → figuresOf c ≡ onPass (expandCheck (c .given)) (series (c .given)) []
+    by Pass h = rw h (took c e (rw (e .answers, h)) .figuresAre)
+    by (Refused r) h = rw (h, e .answers, h)
+
+all-defined : (calls : List Call) → Each ByContract calls → Each AsDefined calls
+all-defined [] e = tt
+all-defined (c ∷ calls) e = (as-defined c (e .0), all-defined calls (e .1))
+
+joined : (common : Common) (start : ℕ) (calls : List Call) → start < 40_000 → Each ByContract calls → Successive common start (accepted calls) → JoinedCalls common start calls
 joined common start calls small e s =
     let c = comes-to common start calls e s in
     let sound = each-sound calls e in
     let all = joined-accepted calls in
     record {
+      defined = all-defined calls e;
       nothing = λ none. none-joined common start calls c (all ∙ ap allQuarters none);
       whole = λ w contract is h.
           let same = whole-carry common start (accepted calls) (w .given) is in
           same-as-whole common start calls w c contract h (same .0) (same .1)
           (whole-quarters common start (accepted calls) (w .given) sound s is ∙ sym all);
       figuresAre = c .figuresAre;
+      countsAre = c .countsAre;
+      totalsAre = c .totalsAre;
       carryIs = c .carryIs;
       carryInRange = rw (c .carryIs) (carry-small (common .yearly) start (powers (joinedQuarters calls)) small);
       within = λ k n. rw (c .figuresAre, all) (run-within common start (accepted calls) small sound s k n);

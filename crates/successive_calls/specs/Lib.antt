@@ -1,1 +1,2 @@
 pub mod SuccessiveCalls
+pub mod WorkedInstance

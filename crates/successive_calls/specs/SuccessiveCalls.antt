@@ -7,14 +7,14 @@ use lib.Dec.{leb, eqb}
 use lib.ListN.{length, take, drop}
 use Rattle.refusal.specs.declared.Refusal.the-variants.{ShortOutput}
 use Rattle.refusal.specs.declared.Verdict.the-variants.{Pass}
-use Rattle.refusal.specs.Verdict.{ask}
+use Rattle.refusal.specs.Verdict.{ask, onPass}
 use Rattle.calendar.specs.Dates.{dateOf, nextDay}
 use Rattle.period.specs.Period.{daysLater}
 use Rattle.carry.specs.Carry.{figures, lastCarry, sum}
 use Rattle.carry.specs.Energy.{Quarter, powers, exactSum, Each, Within, householdBound, otherBound}
 use Rattle.expanding.specs.declared.Expansion.{Expansion}
 use Rattle.expanding.specs.declared.Expansion.the-variants.{Expanded, Refused}
-use Rattle.expanding.specs.Expanding.{Request, Expands, daysIn, quarters, series, requestCheck, expandCheck}
+use Rattle.expanding.specs.Expanding.{Request, Expands, daysIn, quarters, series, totals, requestCheck, outputQuestion, expandCheck, answered, expansion, reported}
 
 -- The calls.
 
@@ -39,14 +39,12 @@ accepted (c ∷ calls) = cond (isAccepted (c .answer)) (c ∷ accepted calls) (a
 
 -- What a list of calls comes to.
 
--- count and total of an answer: "zeros elsewhere" on a refusal
+-- count and total of an answer, both 0 for a refusal
 abbrev pub countOf : Expansion → ℕ
-countOf (Expanded t) = t .count
-countOf (Refused v) = 0
+countOf answer = reported answer .count
 
 abbrev pub totalOf : Expansion → ℕ
-totalOf (Expanded t) = t .total
-totalOf (Refused v) = 0
+totalOf answer = reported answer .total
 
 -- the carry after a call: that of an accepted one; of a refused one "its zeros are not handed on"
 abbrev pub carryAfter : ℕ → Expansion → ℕ
@@ -149,12 +147,20 @@ pub record NothingJoined (start : ℕ) (calls : List Call) : Type 0 where
   pub noTotal : addedTotals calls ≡ 0
   pub carryStays : carryAfterAll start calls ≡ start
 
+-- "every call's answer and figures are those that document 01 defines"
+pub record AsDefined (c : Call) : Type 0 where
+  pub answerIs : c .answer ≡ expansion (c .given)
+  pub figuresAre : figuresOf c ≡ onPass (expandCheck (c .given)) (series (c .given)) []
+
 -- what is claimed of a list of calls
-pub record Joined (common : Common) (start : ℕ) (calls : List Call) : Type 0 where
+pub record JoinedCalls (common : Common) (start : ℕ) (calls : List Call) : Type 0 where
+  pub defined : Each AsDefined calls
   pub nothing : accepted calls ≡ [] → NothingJoined start calls
   pub whole : (c : Call) → ByContract c → IsWhole common start (accepted calls) (c .given) → isAccepted (c .answer) ≡ true → SameAsWhole start calls c
-  -- the joined figures and the last carry are those that document 01 defines, also past 1,461 days
+  -- the joined figures, counts, totals and last carry are those that document 01 defines, also past 1,461 days
   pub figuresAre : joinedFigures calls ≡ figures (common .yearly) (powers (joinedQuarters calls)) start
+  pub countsAre : addedCounts calls ≡ length (joinedFigures calls)
+  pub totalsAre : addedTotals calls ≡ sum (joinedFigures calls)
   pub carryIs : carryAfterAll start calls ≡ lastCarry (common .yearly) (powers (joinedQuarters calls)) start
   pub carryInRange : carryAfterAll start calls < 40_000
   pub within : (k n : ℕ) → RunWithin common calls k n
@@ -175,10 +181,10 @@ pub record Piece (whole piece : Request) : Type 0 where
 -- "it passes every question but 12, and 12 where its own output is long enough"
 pub record OutputAlone (piece : Request) : Type 0 where
   pub others : requestCheck piece ≡ Pass
-  pub all : expandCheck piece ≡ ask (leb (length (series piece)) (length (piece .output))) (ShortOutput (length (series piece)))
+  pub answerIs : expansion piece ≡ answered (outputQuestion piece) (totals piece)
 
 -- The theorem. Proved in proofs/.
 unfoldable pub SuccessiveCalls : Type 0
 SuccessiveCalls =
-    ((common : Common) (start : ℕ) (calls : List Call) → start < 40_000 → Each ByContract calls → Successive common start (accepted calls) → Joined common start calls)
+    ((common : Common) (start : ℕ) (calls : List Call) → start < 40_000 → Each ByContract calls → Successive common start (accepted calls) → JoinedCalls common start calls)
     × ((whole : Call) (piece : Request) → ByContract whole → isAccepted (whole .answer) ≡ true → Piece (whole .given) piece → OutputAlone piece)
