@@ -2,12 +2,12 @@
 -- Assumes nothing.
 use mathlib.Core.Path.{_≡_, refl, _∙_, ap}
 use mathlib.Core.Bool.{Bool, true, false}
-use Prim.Native.Nat.{ℕ, _+_, _-_, _≤_, _<_}
+use Prim.Native.Nat.{ℕ, _+_, _-_, _/_, _%_, _≤_, _<_}
 use native.Mathlib.Omega.{arith}
 use borrow.Author.Tests.{lt-ltb, le-ltb, ltb-true, ltb-false}
 use lib.Dec.{ltb}
 use Rattle.calendar.specs.declared.dates.Date.{Date}
-use Rattle.calendar.specs.Dates.{numberOf, monthLength, leapDays, isDate, daysOfMonths, dayOfYear, daysOfYears, dayNumber, nextDay, NextDayCounts, EveryDate}
+use Rattle.calendar.specs.Dates.{dateOf, numberOf, monthLength, leapDays, isDate, daysOfMonths, dayOfYear, daysOfYears, dayNumber, nextDay, NextDayCounts, EveryDate}
 use Rattle.calendar.proofs.DateLaws.{Parts, parts, is-date, month-large, january, months-next, months-all, years-next, day-of-year-range}
 
 -- the three dates that a next day can be
@@ -102,8 +102,20 @@ next-day-counts d h = by-day (ltb (d .day) length) refl
         (λ before. is-date (sameMonth d) (p .year-from) (p .year-to) (p .month-from) (p .month-to) (omega arith) (omega arith))
     by-day false e = by-month (ltb-false (d .day) length e) (ltb (d .month) 12) refl
 
+-- the parts of a date's number are the date's
+numbered : (d : Date) → isDate d ≡ true → dateOf (numberOf d) ≡ d
+numbered d h =
+    let p = parts d h in
+    let year : numberOf d / 10_000 ≡ d .year = omega (arith, p) in
+    let month : numberOf d / 100 % 100 ≡ d .month = omega (arith, p) in
+    let day : numberOf d % 100 ≡ d .day = omega (arith, p) in
+    rw (year, month, day)
+
 pub every-date : EveryDate
 unfolding EveryDate
-every-date d h =
-    let range = day-of-year-range d h in
-    record { fromOne = range .0; toYearEnd = range .1; next = next-day-counts d h }
+every-date = (
+  λ d h.
+      let range = day-of-year-range d h in
+      record { fromOne = range .0; toYearEnd = range .1; numbered = numbered d h; next = next-day-counts d h },
+  λ n. omega arith,
+)

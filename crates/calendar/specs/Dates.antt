@@ -71,11 +71,12 @@ pub record NextDayCounts (d : Date) : Type 0 where
   pub counts : dayNumber (nextDay d) ≡ dayNumber d + 1
   pub isDateToo : numberOf d < 20991231 → isDate (nextDay d) ≡ true
 
--- what holds of every date. Proved in proofs/NextDay.antt and proofs/DateLaws.antt.
+-- what holds of every date; and a lent number and its date are one another's. Proved in proofs/NextDay.antt and proofs/DateLaws.antt.
 pub record DateFacts (d : Date) : Type 0 where
   pub fromOne : 1 ≤ dayOfYear d
   pub toYearEnd : dayOfYear d ≤ 365 + leapDays (d .year)
+  pub numbered : dateOf (numberOf d) ≡ d
   pub next : NextDayCounts d
 
 unfoldable pub EveryDate : Type 0
-EveryDate = (d : Date) → isDate d ≡ true → DateFacts d
+EveryDate = ((d : Date) → isDate d ≡ true → DateFacts d) × ((n : ℕ) → numberOf (dateOf n) ≡ n)

@@ -8,7 +8,7 @@ use native.Mathlib.Nat.{mul-add, mul-assoc, mul-left-comm, mul-le-mul-left}
 use native.Mathlib.Omega.{arith}
 use lib.ListN.{length}
 use Rattle.carry.specs.Carry.{figures, sum}
-use Rattle.carry.specs.Energy.{Quarter, powers, values, products, exactSum, Rounded, Each, Within, householdBound, otherBound, Undynamised, Bounded}
+use Rattle.carry.specs.Energy.{Quarter, powers, values, products, exactSum, Rounded, Each, Within, householdBound, otherBound, Unrounded, Bounded}
 use Rattle.carry.proofs.Joining.{telescope, carry-small}
 
 -- the roundings of a run
@@ -22,7 +22,7 @@ unfolding sum
 under [] e = omega arith
 under (q ∷ run) e = omega (arith, e .0 .below, under run (e .1))
 
-same : (run : List Quarter) → Each Undynamised run → sum (powers run) * 10 ^ 12 ≡ sum (products run)
+same : (run : List Quarter) → Each Unrounded run → sum (powers run) * 10 ^ 12 ≡ sum (products run)
 unfolding sum
 same [] e = refl
 same (q ∷ run) e = omega (arith, e .0, same run (e .1))
@@ -62,7 +62,7 @@ household yearly carry run h e =
     let both = carried yearly carry (yearly * p) slack run h above below in
     record { above = both .0; below = both .1 }
 
-other : (yearly carry : ℕ) (run : List Quarter) → carry < 40_000 → Each Undynamised run → Within otherBound (exactSum yearly run) (sum (figures yearly (powers run) carry))
+other : (yearly carry : ℕ) (run : List Quarter) → carry < 40_000 → Each Unrounded run → Within otherBound (exactSum yearly run) (sum (figures yearly (powers run) carry))
 other yearly carry run h e =
     let p = sum (products run) in
     let s = sum (powers run) * 10 ^ 12 in

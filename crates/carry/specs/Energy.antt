@@ -1,5 +1,5 @@
--- Document 01, "Series and carry": a run's exact and static energy, and how far its sum may lie from them. Stated for any list
--- of quarter hours with P, X and Q, whichever days and tables they come from.
+-- Document 01, "Series and carry": a run's exact and static energy, and how far its sum may lie from the exact one. Stated for
+-- any list of quarter hours with P, X and Q, whichever days and tables they come from.
 use mathlib.Core.Path.{_≡_}
 use mathlib.Core.List.{List, [], _∷_, map}
 use Prim.Native.Nat.{ℕ, _+_, _*_, _^_, _≤_, _<_}
@@ -54,12 +54,12 @@ abbrev pub otherBound : ℕ
 otherBound = 4 * 10 ^ 16
 
 -- Q is P × X / 10^12 itself
-abbrev pub Undynamised : Quarter → Type 0
-Undynamised q = q .power * 10 ^ 12 ≡ q .value * q .exact
+abbrev pub Unrounded : Quarter → Type 0
+Unrounded q = q .power * 10 ^ 12 ≡ q .value * q .exact
 
 -- the theorem: whatever carry a run begins with, its sum keeps to its bound. Proved in proofs/Bound.antt.
 unfoldable pub Bounded : Type 0
 Bounded =
     (yearly carry : ℕ) (run : List Quarter) → carry < 40_000 →
     (Each Rounded run → Within (householdBound yearly run) (exactSum yearly run) (sum (figures yearly (powers run) carry)))
-    × (Each Undynamised run → Within otherBound (exactSum yearly run) (sum (figures yearly (powers run) carry)))
+    × (Each Unrounded run → Within otherBound (exactSum yearly run) (sum (figures yearly (powers run) carry)))

@@ -1,25 +1,27 @@
 -- A day's quarter hours: how many they are, their powers after the clock change, none above 40,000, and what their roundings cost.
 -- Assumes nothing.
-use mathlib.Core.Path.{_≡_, refl, _∙_, ap}
+use mathlib.Core.Path.{_≡_, refl, sym, _∙_, ap}
 use mathlib.Core.List.{List, [], _∷_, _++_, map, map-append, map-map}
 use Prim.Native.Nat.{ℕ, zero, suc, _*_, _≤_}
 use native.Mathlib.Nat.{mul-le-mul, mul-le-mul-left, le-of-lt}
 use native.Mathlib.Omega.{arith}
-use lib.IntN.{ℤ, natAbs}
+use lib.IntN.{ℤ, pos, natAbs}
 use lib.ListN.{length, take, drop, getD, length-map}
 use lib.Seq.{getD-drop}
 use Rattle.calendar.specs.declared.dates.Date.{Date}
 use Rattle.calendar.specs.declared.days.Clock.{Clock}
 use Rattle.calendar.specs.declared.days.Clock.the-variants.{Unchanged, Forward, Back}
 use Rattle.calendar.specs.Dates.{dayOfYear}
+use Rattle.calendar.proofs.DateLaws.{day-of-year-range, leap-small}
 use Rattle.calendar.specs.Days.{season, dayType, clock, positions, valuesUnder, CountedPositions}
 use Rattle.calendar.proofs.Positions.{counted-positions}
 use Rattle.dynamisation.specs.Dynamisation.{X, F, Q}
 use Rattle.dynamisation.specs.Rounding.{Roundings}
 use Rattle.dynamisation.proofs.Rounding.{roundings}
-use Rattle.carry.specs.Energy.{Quarter, powers, Rounded, Each, Undynamised}
+use Rattle.dynamisation.proofs.Whole.{whole}
+use Rattle.carry.specs.Energy.{Quarter, powers, Rounded, Each, Unrounded}
 use Rattle.day_powers.specs.DayTable.{tableIndex, tableAt, dayValues}
-use Rattle.day_powers.specs.DayQuarters.{quarter, dayQuarters, powersBy}
+use Rattle.day_powers.specs.DayQuarters.{quarter, dayQuarters, powersBy, ExactX}
 use Rattle.day_powers.proofs.EachLaws.{each-map, each-position}
 use Rattle.day_powers.proofs.Tables.{figures, length-table, getD-powers}
 
@@ -90,7 +92,7 @@ rounded group t p h k =
       below = omega (arith, mul-le-mul-left p (le-of-lt (factor .below)));
     }
 
-undynamised : (group t p : ℕ) → Undynamised (quarter (suc group) t p)
+undynamised : (group t p : ℕ) → Unrounded (quarter (suc group) t p)
 unfolding Roundings X
 undynamised group t p = omega (arith, roundings .2 group t p .power)
 
@@ -104,5 +106,12 @@ module _ (values : List ℕ) (group : ℕ) (holidays : List ℕ) (d : Date) wher
   pub day-rounded : 1 ≤ dayOfYear d → dayOfYear d ≤ 366 → Each Rounded (dayQuarters values group holidays d)
   day-rounded h k = each-quarter Rounded values group holidays d (λ p. rounded group (dayOfYear d) p h k)
 
-  pub day-undynamised : Each Undynamised (dayQuarters values (suc group) holidays d)
-  day-undynamised = each-quarter Undynamised values (suc group) holidays d (undynamised group (dayOfYear d))
+  pub day-undynamised : Each Unrounded (dayQuarters values (suc group) holidays d)
+  day-undynamised = each-quarter Unrounded values (suc group) holidays d (undynamised group (dayOfYear d))
+
+pub exact-x : ExactX
+unfolding ExactX
+exact-x group d h =
+    let range = day-of-year-range d h in
+    let w = whole group (dayOfYear d) (range .0, omega (arith, range .1, leap-small (d .year))) in
+    w .exact ∙ ap (λ (z : ℤ). pos (natAbs z)) (sym (w .exact))

@@ -2,7 +2,7 @@
 -- the lent output, accepted and refused.
 use mathlib.Core.Path.{_≡_}
 use mathlib.Core.List.{List}
-use Prim.Native.Nat.{ℕ}
+use Prim.Native.Nat.{ℕ, _^_, _<_}
 use lib.Dec.{leb}
 use lib.ListN.{length}
 use Rattle.refusal.specs.declared.Refusal.the-variants.{BadUse, BadCarry, ShortOutput}
@@ -14,7 +14,7 @@ use Rattle.calendar.specs.Holidays.{holidaysQuestion}
 use Rattle.profile.specs.File.{check}
 use Rattle.period.specs.Period.{daysOf, periodCheck}
 use Rattle.carry.specs.Carry.{figures, lastCarry, sum}
-use Rattle.carry.specs.Energy.{Quarter, powers}
+use Rattle.carry.specs.Energy.{Quarter, powers, Each}
 use Rattle.series.specs.declared.Totals.{Totals}
 use Rattle.series.specs.Series.{quartersOf}
 use Rattle.expanding.specs.declared.Expansion.{Expansion}
@@ -105,6 +105,10 @@ outputAfter q = lentAfter (expandCheck q) (series q) (q .output)
 pub record Expands (q : Request) (answer : Expansion) (after : List ℕ) : Type 0 where
   pub answers : answer ≡ expansion q
   pub leaves : after ≡ outputAfter q
+
+-- the theorem: "A figure fits 32 bits, a total 64." Proved in proofs/Fits.antt.
+unfoldable pub FiguresFit : Type 0
+FiguresFit = (q : Request) → requestCheck q ≡ Pass → Each (λ figure. figure < 2 ^ 32) (series q) × (sum (series q) < 2 ^ 64)
 
 -- the figures for each case of the answer: an accepted call has number and place 0; "A refusal gives number, place and zeros
 -- elsewhere"

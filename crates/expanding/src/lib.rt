@@ -46,16 +46,10 @@ fn carry_question(carry: u32) -> Verdict
 }
 
 // Questions 7 to 11.
-fn period_and_use_questions(
-    first: u32,
-    last: u32,
-    holidays: &[u32],
-    yearly: u32,
-    carry: u32,
-) -> Verdict
+fn request_questions(first: u32, last: u32, holidays: &[u32], yearly: u32, carry: u32) -> Verdict
     ensures { λ r. ⌜ r ≡ (periodCheck first last then holidaysQuestion (now (holidays .entry)) then useQuestion yearly then carryQuestion carry) ⌝ }
 {
-    let v = period::period_questions(first, last);
+    let v = period::check_period(first, last);
     let Verdict::Pass = v else {
         return v;
     };
@@ -91,7 +85,7 @@ pub fn expand(
     let Found::At(at) = profile::group::find(file, group) else {
         return Expansion::Refused(Verdict::Refused(Refusal::NoGroup(0)));
     };
-    let v = period_and_use_questions(first, last, holidays, yearly, carry);
+    let v = request_questions(first, last, holidays, yearly, carry);
     let Verdict::Pass = v else {
         return Expansion::Refused(v);
     };

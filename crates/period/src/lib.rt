@@ -70,7 +70,7 @@ fn period_question(first: Date, last: Date) -> Verdict
 }
 
 // Questions 7 and 8.
-pub fn period_questions(first: u32, last: u32) -> Verdict
+pub fn check_period(first: u32, last: u32) -> Verdict
     ensures { λ r. ⌜ r ≡ periodCheck first last ⌝ }
 {
     let v = calendar::holidays::date_question(first, 0);

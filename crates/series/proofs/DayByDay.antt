@@ -92,7 +92,7 @@ module _ {yearly : ℕ} {whole : List ℕ} {carry : ℕ} {entry : List ℕ} wher
       }
 
 -- no power above 40,000
-abbrev Small : List ℕ → Type 0
+abbrev pub Small : List ℕ → Type 0
 Small xs = Each (λ (p : ℕ). p ≤ 40_000) xs
 
 small-each : (xs : List ℕ) → ((i : ℕ) → getD xs i 0 ≤ 40_000) → Small xs
@@ -127,7 +127,7 @@ module _ {part : List ℕ} (bytes : GroupPart part) (group : ℕ) (holidays : Li
       rw (day-powers-positions (wordsOf part) group holidays d)
       (each-position _ (clock d) _ (small-each (powersBefore part group holidays d) (day-powers-small bytes group holidays d h)))
 
-  all-small : (n : ℕ) (d : Date) → AllDates n d → Small (powersFrom part group holidays n d)
+  pub all-small : (n : ℕ) (d : Date) → AllDates n d → Small (powersFrom part group holidays n d)
   all-small zero d h = rw (powers-none part group holidays 0 d (omega arith)) tt
   all-small (suc n) d h =
       let one : suc n - 1 ≡ n = omega arith in
@@ -160,7 +160,7 @@ module _ {part : List ℕ} {group : ℕ} {holidays : List ℕ} {yearly : ℕ} {w
     split = rw (powers-next part group holidays left (day .date) some) at (l .todo)
 
     pub this-day : RealDay day
-    this-day = record { isDate = all-first left (day .date) (l .real .all) some; known = l .real .known }
+    this-day = record { real = all-first left (day .date) (l .real .all) some; known = l .real .known }
 
     pub day-room : Room yearly (dayPowers part group holidays (day .date)) soFar out
     day-room = next-room _ (powersFrom part group holidays (left - 1) (nextDay (day .date))) split

@@ -46,7 +46,7 @@ module _ {day : CalendarDay} (real : RealDay day) where
   own-t = ap (λ (x : CalendarDay). x .t) (real .known)
 
   pub t-in-year : Day (day .t)
-  t-in-year = rw own-t (in-year (day .date) (real .isDate))
+  t-in-year = rw own-t (in-year (day .date) (real .real))
 
   -- the factor of its t, and the table of its season and day type
   pub own-powers : {s : Season} {k : DayType} {index f : ℕ} {all : List ℕ} (values : List ℕ) (group : ℕ) (holidays : List ℕ) →

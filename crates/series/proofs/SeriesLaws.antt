@@ -14,7 +14,7 @@ use Rattle.carry.specs.Energy.{Quarter, Each}
 use Rattle.day_powers.specs.DayQuarters.{dayQuarters}
 use Rattle.day_powers.proofs.EachLaws.{each-append}
 use Rattle.day_powers.proofs.Quarters.{length-day-quarters}
-use Rattle.series.specs.Series.{quartersOfDays}
+use Rattle.series.specs.Series.{quartersOfDays, PeriodsJoin, CountedSeries}
 
 module _ (day : Date → List Quarter) where
   pub quarters-none : (n : ℕ) (d : Date) → n ≤ 0 → quartersOfDays day n d ≡ []
@@ -51,3 +51,11 @@ length-quarters values group holidays zero d h = refl
 length-quarters values group holidays (suc n) d h =
     length-append (dayQuarters values group holidays d) _
     ∙ (rw (length-day-quarters values group holidays d h, length-quarters values group holidays n (nextDay d) h))
+
+pub periods-join : PeriodsJoin
+unfolding PeriodsJoin
+periods-join = quarters-add
+
+pub counted-series : CountedSeries
+unfolding CountedSeries
+counted-series = length-quarters

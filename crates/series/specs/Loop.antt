@@ -25,7 +25,7 @@ pub record InRange (yearly carry : ℕ) : Type 0 where
 
 -- a real date with its own weekday and t
 pub record RealDay (day : CalendarDay) : Type 0 where
-  pub isDate : isDate (day .date) ≡ true
+  pub real : isDate (day .date) ≡ true
   pub known : day ≡ calendarDay (day .date)
 
 -- some days from a day on, at most 1,461, all of them real

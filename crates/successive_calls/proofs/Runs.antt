@@ -15,7 +15,7 @@ use Rattle.period.specs.Period.{daysLater}
 use Rattle.period.proofs.Days.{period-days}
 use Rattle.profile.specs.File.{tableOf}
 use Rattle.carry.specs.Carry.{figures, lastCarry, sum}
-use Rattle.carry.specs.Energy.{Quarter, powers, exactSum, Rounded, Undynamised, Each, Within, householdBound, otherBound, Bounded}
+use Rattle.carry.specs.Energy.{Quarter, powers, exactSum, Rounded, Unrounded, Each, Within, householdBound, otherBound, Bounded}
 use Rattle.carry.proofs.Joining.{figures-take, figures-drop, carry-small}
 use Rattle.carry.proofs.Bound.{bounded}
 use Rattle.day_powers.specs.DayQuarters.{dayQuarters}
@@ -49,13 +49,13 @@ quarters-rounded q s =
     each-quarter (dayQuarters values (q .group) (q .holidays)) Rounded (daysIn q) (dateOf (q .first))
     (λ k h. let t = on-day q s k h in day-rounded values (q .group) (q .holidays) (daysLater k (dateOf (q .first))) (t .0) (t .1))
 
-day-not-dynamised : (values : List ℕ) (group above : ℕ) (holidays : List ℕ) (d : Date) → group ≡ suc above → Each Undynamised (dayQuarters values group holidays d)
+day-not-dynamised : (values : List ℕ) (group above : ℕ) (holidays : List ℕ) (d : Date) → group ≡ suc above → Each Unrounded (dayQuarters values group holidays d)
 day-not-dynamised values group above holidays d e = rw e (day-undynamised values above holidays d)
 
-quarters-undynamised : (q : Request) (above : ℕ) → q .group ≡ suc above → Each Undynamised (quarters q)
+quarters-undynamised : (q : Request) (above : ℕ) → q .group ≡ suc above → Each Unrounded (quarters q)
 quarters-undynamised q above e =
     let values = tableOf (q .file) (q .group) in
-    each-quarter (dayQuarters values (q .group) (q .holidays)) Undynamised (daysIn q) (dateOf (q .first))
+    each-quarter (dayQuarters values (q .group) (q .holidays)) Unrounded (daysIn q) (dateOf (q .first))
     (λ k h. day-not-dynamised values (q .group) above (q .holidays) (daysLater k (dateOf (q .first))) e)
 
 -- and those of successive requests
@@ -68,7 +68,7 @@ all-rounded : (calls : List Call) → Each (λ c. Sound (c .given)) calls → Ea
 all-rounded [] e = tt
 all-rounded (c ∷ calls) e = (quarters-rounded (c .given) (e .0), all-rounded calls (e .1))
 
-all-undynamised : (common : Common) (carry group : ℕ) (calls : List Call) → common .group ≡ suc group → Successive common carry calls → Each (λ c. Each Undynamised (quarters (c .given))) calls
+all-undynamised : (common : Common) (carry group : ℕ) (calls : List Call) → common .group ≡ suc group → Successive common carry calls → Each (λ c. Each Unrounded (quarters (c .given))) calls
 unfolding Successive
 all-undynamised common carry group [] e s = tt
 all-undynamised common carry group (c ∷ calls) e s = (
@@ -98,7 +98,7 @@ module _ (common : Common) (start : ℕ) (calls : List Call) (small : start < 40
   by-group (suc group) h =
       rw (ne-eqb (suc group) 0 (λ z. omega arith))
       (bounded (common .yearly) begun part in-range .1
-      (part-has Undynamised (all-have Undynamised calls (all-undynamised common start group calls h s))))
+      (part-has Unrounded (all-have Unrounded calls (all-undynamised common start group calls h s))))
 
   pub run-within : Within (cond (eqb (common .group) 0) (householdBound (common .yearly) (run k n (allQuarters calls))) otherBound) (exactSum (common .yearly) (run k n (allQuarters calls))) (sum (run k n (figures (common .yearly) (powers (allQuarters calls)) start)))
   unfolding part begun

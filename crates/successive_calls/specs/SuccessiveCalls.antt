@@ -132,7 +132,7 @@ run k n joined = take n (drop k joined)
 -- "less than 1 Wh + its static energy (factor left out) / 20,000 + n × A / 80,000 Wh for households, and by less than 1 Wh for
 -- all others"
 abbrev pub boundOf : Common → List Quarter → ℕ
-boundOf common quarters = cond (eqb (common .group) 0) (householdBound (common .yearly) quarters) otherBound
+boundOf common part = cond (eqb (common .group) 0) (householdBound (common .yearly) part) otherBound
 
 -- the run's sum and its exact energy, from n quarter hours after the first k
 abbrev pub RunWithin : Common → List Call → ℕ → ℕ → Type 0

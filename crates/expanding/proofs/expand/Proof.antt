@@ -59,7 +59,7 @@ asked c = given (of-file (of-group (of-request c)))
 request-passed : (c : tie.After-enum-told4) → requestCheck (asked c) ≡ Pass
 request-passed c =
     then-pass _ (check-found _ _ (file-passed (of-group (of-request c))) (found (of-request c)))
-    ∙ (sym (c .before .before .period-and-use-questions .ensures) ∙ c .enum-told4 .given .1)
+    ∙ (sym (c .before .before .request-questions .ensures) ∙ c .enum-told4 .given .1)
 
 -- the first day, the number of days and the entries needed
 abbrev of-day : tie.After-calendar-day → tie.After-enum-told4
@@ -138,8 +138,8 @@ returns-2 c =
     let f = c .before .before in
     file-refused (given (of-file (f .before))) (sym (check-missing _ _ (file-passed (f .before)) (sym (f .find .ensures) ∙ c .enum-told3 .given .1))) refl
 
-period-and-use-questions-requires : tie.Need-period-and-use-questions-requires
-period-and-use-questions-requires c κs = search needs
+request-questions-requires : tie.Need-request-questions-requires
+request-questions-requires c κs = search needs
 
 enum-told-4 : tie.Need-enum-told-4
 enum-told-4 c = search needs
@@ -150,7 +150,7 @@ enum-told-5 c = search needs
 returns-3 : tie.Need-returns-3
 returns-3 c =
     let a = c .before .before .before .before in
-    others-refused (given (of-file (of-group a))) (check-found _ _ (file-passed (of-group a)) (found a)) (c .before .before .period-and-use-questions .ensures) (c .before .match3 .keys2)
+    others-refused (given (of-file (of-group a))) (check-found _ _ (file-passed (of-group a)) (found a)) (c .before .before .request-questions .ensures) (c .before .match3 .keys2)
 
 date-of-requires : tie.Need-date-of-requires
 date-of-requires c κs = search needs
@@ -208,7 +208,7 @@ expand-spec =
     enum-known-at
     enum-told-3
     returns-2
-    period-and-use-questions-requires
+    request-questions-requires
     enum-told-4
     enum-told-5
     returns-3

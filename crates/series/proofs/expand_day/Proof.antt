@@ -12,7 +12,7 @@ powers-on-requires c κs = search needs
 clock-of-requires : tie.Need-clock-of-requires
 clock-of-requires c κs =
     let real = c .before .before .before .before .pre .1 .0 in
-    (real .isDate, own-weekday real)
+    (real .real, own-weekday real)
 
 carry-day-requires : tie.Need-carry-day-requires
 carry-day-requires c κs =
@@ -20,7 +20,7 @@ carry-day-requires c κs =
     let start = asked .before .before .before .before .before in
     let (small, room) =
     carry-asked (start .pre .0) (start .args .group) (start .args .holidays .now) (start .args .day .date)
-    (asked .before .powers-on .ensures) (asked .clock-of .ensures) (start .pre .1 .1 .1) (start .pre .1 .0 .isDate) (start .pre .1 .1 .0) in
+    (asked .before .powers-on .ensures) (asked .clock-of .ensures) (start .pre .1 .1 .1) (start .pre .1 .0 .real) (start .pre .1 .1 .0) in
     (small, omega arith)
 
 values-under-requires : tie.Need-values-under-requires

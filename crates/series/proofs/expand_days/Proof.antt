@@ -33,7 +33,7 @@ expand-day-requires c κs =
 day-after-requires : tie.Need-day-after-requires Inv-loop μ-loop
 day-after-requires c κs =
     let real = this-day (c .before .before .before .before .before .loop .inv) (omega arith) in
-    (real .isDate, real .known)
+    (real .real, real .known)
 
 sub-left : tie.Need-sub-left Inv-loop μ-loop
 sub-left c = omega arith

@@ -13,7 +13,7 @@ season-of-requires c κs = search needs
 day-type-of-requires : tie.Need-day-type-of-requires
 day-type-of-requires c κs =
     let real = c .before .before .before .pre .1 in
-    (real .isDate, own-weekday real)
+    (real .real, own-weekday real)
 
 table-index-requires : tie.Need-table-index-requires
 table-index-requires c κs = search needs

@@ -1,12 +1,12 @@
--- `expanding::period_and_use_questions` meets its contract: a refusal is answered as it is, and after a pass the next question
+-- `expanding::request_questions` meets its contract: a refusal is answered as it is, and after a pass the next question
 -- counts. Assumes nothing.
 use Rattle.refusal.proofs.Laws.{stops, goes-on}
 use borrow.Author.Needs.{needs}
-use Rattle.expanding.proofs.period_and_use_questions.Statement.{statement}
-use Rattle.expanding.proofs.period_and_use_questions.Tie as tie
+use Rattle.expanding.proofs.request_questions.Statement.{statement}
+use Rattle.expanding.proofs.request_questions.Tie as tie
 
-period-questions-requires : tie.Need-period-questions-requires
-period-questions-requires c κs = search needs
+check-period-requires : tie.Need-check-period-requires
+check-period-requires c κs = search needs
 
 enum-told : tie.Need-enum-told
 enum-told c = search needs
@@ -15,7 +15,7 @@ enum-told-2 : tie.Need-enum-told-2
 enum-told-2 c = search needs
 
 returns : tie.Need-returns
-returns c = stops _ (c .before .before .period-questions .ensures) (c .before .match .keys2)
+returns c = stops _ (c .before .before .check-period .ensures) (c .before .match .keys2)
 
 holidays-question-requires : tie.Need-holidays-question-requires
 holidays-question-requires c κs = search needs
@@ -29,7 +29,7 @@ enum-told-4 c = search needs
 returns-2 : tie.Need-returns-2
 returns-2 c =
     let second = c .before .before in
-    goes-on (second .before .before .before .period-questions .ensures) (second .before .before .match .keys1)
+    goes-on (second .before .before .before .check-period .ensures) (second .before .before .match .keys1)
     (stops _ (second .holidays-question .ensures) (c .before .match2 .keys2))
 
 use-question-requires : tie.Need-use-question-requires
@@ -45,7 +45,7 @@ returns-3 : tie.Need-returns-3
 returns-3 c =
     let third = c .before .before in
     let second = third .before .before .before in
-    goes-on (second .before .before .before .period-questions .ensures) (second .before .before .match .keys1)
+    goes-on (second .before .before .before .check-period .ensures) (second .before .before .match .keys1)
     (goes-on (second .holidays-question .ensures) (third .before .before .match2 .keys1)
     (stops _ (third .use-question .ensures) (c .before .match3 .keys2)))
 
@@ -56,15 +56,15 @@ returns-4 : tie.Need-returns-4
 returns-4 c =
     let third = c .before .before .before in
     let second = third .before .before .before in
-    goes-on (second .before .before .before .period-questions .ensures) (second .before .before .match .keys1)
+    goes-on (second .before .before .before .check-period .ensures) (second .before .before .match .keys1)
     (goes-on (second .holidays-question .ensures) (third .before .before .match2 .keys1)
     (goes-on (third .use-question .ensures) (c .before .before .match3 .keys1) (c .carry-question .ensures)))
 
-pub period-and-use-questions-spec : {M : Type 1} → statement M
-period-and-use-questions-spec =
+pub request-questions-spec : {M : Type 1} → statement M
+request-questions-spec =
     tie.close
     (tie.spec
-    period-questions-requires
+    check-period-requires
     enum-told
     enum-told-2
     returns

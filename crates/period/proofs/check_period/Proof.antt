@@ -1,4 +1,4 @@
--- `period::period_questions` meets its contract: a refusal is answered as it is, and after a pass the next question counts.
+-- `period::check_period` meets its contract: a refusal is answered as it is, and after a pass the next question counts.
 -- Assumes nothing.
 use mathlib.Core.Path.{_≡_, sym, ap, _∙_}
 use mathlib.Core.Bool.{true}
@@ -11,8 +11,8 @@ use Rattle.calendar.specs.declared.dates.Date.{Date}
 use Rattle.calendar.specs.Dates.{dateOf, isDate}
 use Rattle.calendar.specs.Holidays.{dateQuestion}
 use Rattle.period.specs.Period.{periodQuestion, periodCheck}
-use Rattle.period.proofs.period_questions.Statement.{statement}
-use Rattle.period.proofs.period_questions.Tie as tie
+use Rattle.period.proofs.check_period.Statement.{statement}
+use Rattle.period.proofs.check_period.Tie as tie
 
 -- a date whose question passed
 is-date : (n place : ℕ) {d : Date} {v : Verdict} → v ≡ dateQuestion n place → IsPass v → d ≡ dateOf n → isDate d ≡ true
@@ -75,8 +75,8 @@ returns-3 c =
     (second .before .before .match .keys1) (second .date-question2 .ensures)
     (dates .before .before .before .match2 .keys1) (dates .before .date-of .ensures) (dates .date-of2 .ensures) (c .period-question .ensures)
 
-pub period-questions-spec : {M : Type 1} → statement M
-period-questions-spec =
+pub check-period-spec : {M : Type 1} → statement M
+check-period-spec =
     tie.close
     (tie.spec
     date-question-requires
