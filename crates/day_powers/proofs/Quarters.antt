@@ -23,7 +23,7 @@ use Rattle.carry.specs.Energy.{Quarter, powers, Rounded, Each, Unrounded}
 use Rattle.day_powers.specs.DayTable.{tableIndex, tableAt, dayValues}
 use Rattle.day_powers.specs.DayQuarters.{quarter, dayQuarters, powersBy, ExactX}
 use Rattle.day_powers.proofs.EachLaws.{each-map, each-position}
-use Rattle.day_powers.proofs.Tables.{figures, length-table, getD-powers}
+use Rattle.day_powers.proofs.Tables.{places, length-table, getD-powers}
 
 -- `map` of a day after the clock change
 module _ {A B : Type 0} (f : A → B) where
@@ -65,7 +65,7 @@ powers-small values index f h k i =
 pub length-day-values : (values holidays : List ℕ) (d : Date) → length values ≡ 864 → length (dayValues values holidays d) ≡ 96
 unfolding dayValues
 length-day-values values holidays d h =
-    let both = figures (season d) (dayType d holidays) in
+    let both = places (season d) (dayType d holidays) in
     length-table (tableIndex (season d) (dayType d holidays)) values (omega arith)
 
 module _ (values : List ℕ) (group : ℕ) (holidays : List ℕ) (d : Date) where

@@ -11,30 +11,26 @@ use Rattle.calendar.specs.declared.days.Season.{Season}
 use Rattle.calendar.specs.declared.days.Season.the-variants.{Winter, Summer, Transition}
 use Rattle.calendar.specs.declared.days.DayType.{DayType}
 use Rattle.calendar.specs.declared.days.DayType.the-variants.{Weekday, Saturday, Sunday}
-use Rattle.enquiry.specs.Enquiry.{seasonFigure, dayTypeFigure}
 use Rattle.dynamisation.specs.Dynamisation.{Q}
 use Rattle.profile.specs.File.{wordAt}
 use Rattle.profile.specs.Inside.{wordsOf}
 use Rattle.profile.proofs.Words.{length-words, getD-words}
-use Rattle.day_powers.specs.DayTable.{tableAt, TableInside}
+use Rattle.day_powers.specs.DayTable.{seasonPlace, dayTypePlace, tableAt, TableInside}
 use Rattle.day_powers.specs.DayQuarters.{powersBy}
 
--- both figures are 1 to 3
-abbrev OneToThree : ℕ → Type 0
-OneToThree n = (1 ≤ n) × (n ≤ 3)
+-- both places are at most 2
+season-place : (s : Season) → seasonPlace s ≤ 2
+season-place Winter = omega arith
+season-place Summer = omega arith
+season-place Transition = omega arith
 
-season-figure : (s : Season) → OneToThree (seasonFigure s)
-season-figure Winter = (omega arith, omega arith)
-season-figure Summer = (omega arith, omega arith)
-season-figure Transition = (omega arith, omega arith)
+day-type-place : (d : DayType) → dayTypePlace d ≤ 2
+day-type-place Weekday = omega arith
+day-type-place Saturday = omega arith
+day-type-place Sunday = omega arith
 
-day-type-figure : (d : DayType) → OneToThree (dayTypeFigure d)
-day-type-figure Weekday = (omega arith, omega arith)
-day-type-figure Saturday = (omega arith, omega arith)
-day-type-figure Sunday = (omega arith, omega arith)
-
-pub figures : (s : Season) (d : DayType) → OneToThree (seasonFigure s) × OneToThree (dayTypeFigure d)
-figures s d = (season-figure s, day-type-figure d)
+pub places : (s : Season) (d : DayType) → (seasonPlace s ≤ 2) × (dayTypePlace d ≤ 2)
+places s d = (season-place s, day-type-place d)
 
 pub length-table : (index : ℕ) (values : List ℕ) → (index + 1) * 96 ≤ length values → length (tableAt index values) ≡ 96
 length-table index values h = simp (length-take, length-drop) (omega arith)

@@ -1,18 +1,29 @@
 -- Document 01, "The profile file": "Values stand in the order winter, summer, transition; in each season weekday, Saturday, Sunday;
 -- in each day 96 values". Which of a group's values are a day's.
 use mathlib.Core.List.{List}
-use Prim.Native.Nat.{ℕ, _+_, _-_, _*_, _≤_}
+use Prim.Native.Nat.{ℕ, _+_, _*_, _≤_}
 use lib.ListN.{length, take, drop, getD}
 use Rattle.calendar.specs.declared.dates.Date.{Date}
 use Rattle.calendar.specs.declared.days.Season.{Season}
 use Rattle.calendar.specs.declared.days.DayType.{DayType}
 use Rattle.calendar.specs.Days.{season, dayType}
 use Rattle.profile.specs.Inside.{wordsOf}
-use Rattle.enquiry.specs.Enquiry.{seasonFigure, dayTypeFigure}
+
+-- "winter, summer, transition"
+abbrev pub seasonPlace : Season → ℕ
+seasonPlace Season.Winter = 0
+seasonPlace Season.Summer = 1
+seasonPlace Season.Transition = 2
+
+-- "weekday, Saturday, Sunday"
+abbrev pub dayTypePlace : DayType → ℕ
+dayTypePlace DayType.Weekday = 0
+dayTypePlace DayType.Saturday = 1
+dayTypePlace DayType.Sunday = 2
 
 -- which of the nine day tables, from 0
 abbrev pub tableIndex : Season → DayType → ℕ
-tableIndex s d = (seasonFigure s - 1) * 3 + (dayTypeFigure d - 1)
+tableIndex s d = seasonPlace s * 3 + dayTypePlace d
 
 -- the 96 values of a day table
 abbrev pub tableAt : ℕ → List ℕ → List ℕ

@@ -4,16 +4,36 @@ use calendar::days::Season;
 ghost use mathlib.Core.Path.{_≡_};
 ghost use Prim.Native.Nat.{_≤_, _<_};
 ghost use Rattle.profile.specs.Inside.{wordsOf};
-ghost use Rattle.day_powers.specs.DayTable.{tableIndex, tableAt, TableInside};
+ghost use Rattle.day_powers.specs.DayTable.{seasonPlace, dayTypePlace, tableIndex, tableAt, TableInside};
 ghost use Rattle.day_powers.specs.DayQuarters.{powersBy};
+
+// The seasons' order in the file.
+fn season_place(season: Season) -> usize
+    ensures { λ r. ⌜ r ≡ seasonPlace season ⌝ }
+{
+    match season {
+        Season::Winter => 0,
+        Season::Summer => 1,
+        Season::Transition => 2,
+    }
+}
+
+// The day types' order in a season.
+fn day_type_place(day_type: DayType) -> usize
+    ensures { λ r. ⌜ r ≡ dayTypePlace «day_type» ⌝ }
+{
+    match day_type {
+        DayType::Weekday => 0,
+        DayType::Saturday => 1,
+        DayType::Sunday => 2,
+    }
+}
 
 // Which of the nine day tables of a group, from 0.
 pub fn table_index(season: Season, day_type: DayType) -> usize
     ensures { λ r. ⌜ (r ≡ tableIndex season «day_type») × (r < 9) ⌝ }
 {
-    let s = enquiry::season_figure(season) as usize;
-    let d = enquiry::day_type_figure(day_type) as usize;
-    (s - 1) * 3 + (d - 1)
+    season_place(season) * 3 + day_type_place(day_type)
 }
 
 // The powers of a day table's 96 values, for one factor. `part` has the bytes of the group's values.

@@ -1,7 +1,10 @@
-// The households' rows of source document 000, January and June 2000, against `dynamisation`. Each factor or power that
-// differs from the printed one is written as a line, then how many agree. The file stdout has the lines to expect: two
-// powers for which the paper took the factor before its rounding, and the regional row of day 174, where the paper
-// printed the row of day 172 again.
+// The households' rows of source document 000, January and June 2000: the factors against `dynamisation`, and the powers
+// against `expanding`, which makes each row's day of a file with the rows' values. So date, holidays, season, day type, place
+// in the file, factor and power are all tested. Each factor or power that differs from the printed one is written as a
+// line, then how many agree. The file stdout has the lines to expect: two powers for which the paper took the factor
+// before its rounding, and the regional row of day 174, where the paper printed the row of day 172 again.
+mod households;
+
 ghost use Prim.Native.Nat.{_≤_, _<_};
 use libc::STDOUT_FILENO;
 
@@ -76,12 +79,11 @@ const POWERS: [[u32; 8]; 20] = [
     [699, 623, 557, 505, 1116, 1139, 1159, 1172],
 ];
 
-// The columns, 0:15 to 1:00 and 8:15 to 9:00: how many quarter hours of the day have passed.
-const QUARTERS: [u32; 8] = [1, 2, 3, 4, 33, 34, 35, 36];
-
 fn main() {
     let factors = compare_factors();
-    let powers = compare_powers();
+    let mut file = [0u8; households::FILE_LENGTH];
+    households::make_file(&mut file);
+    let powers = compare_powers(&file);
     io::write_all(STDOUT_FILENO, b"factors ");
     write_number(factors);
     io::write_all(STDOUT_FILENO, b" of 18, powers ");
@@ -101,11 +103,11 @@ fn compare_factors() -> u32 {
 }
 
 // How many powers agree.
-fn compare_powers() -> u32 {
+fn compare_powers(file: &[u8; households::FILE_LENGTH]) -> u32 {
     let mut agree: u32 = 0;
     let mut cell: usize = 0;
     while cell < 160 {
-        agree += compare_power(cell / 8, cell % 8);
+        agree += compare_power(file, cell / 8, cell % 8);
         cell += 1;
     }
     agree
@@ -131,13 +133,13 @@ fn compare_factor(i: usize) -> u32
 
 // 1 where the power of row i and column j agrees with the printed one. Else 0, after a line with the day, the time, P
 // and both.
-fn compare_power(i: usize, j: usize) -> u32
+fn compare_power(file: &[u8; households::FILE_LENGTH], i: usize, j: usize) -> u32
     requires { ⌜ (i < 20) × (j < 8) ⌝ }
     ensures { λ r. ⌜ r ≤ 1 ⌝ }
 {
     let t = row_day(i);
     let p = profile_value(i, j);
-    let ours = dynamisation::power(p, factor(t));
+    let ours = households::power(file, i, j);
     let printed = POWERS[i][j];
     if ours == printed {
         return 1;
@@ -154,7 +156,6 @@ fn compare_power(i: usize, j: usize) -> u32
 // The households' factor.
 fn factor(t: u32) -> u32
     requires { ⌜ (1 ≤ t) × (t ≤ 366) ⌝ }
-    ensures { λ r. ⌜ r ≤ 20_000 ⌝ }
 {
     dynamisation::factor(0, t)
 }
@@ -194,7 +195,7 @@ fn write_next(n: u32) {
 fn write_time(j: usize)
     requires { ⌜ j < 8 ⌝ }
 {
-    let quarters = QUARTERS[j];
+    let quarters = households::position(j) as u32 + 1;
     io::write_all(STDOUT_FILENO, b" ");
     write_two_digits(quarters / 4);
     io::write_all(STDOUT_FILENO, b":");

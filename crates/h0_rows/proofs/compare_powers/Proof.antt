@@ -1,14 +1,14 @@
 -- `h0_rows::compare_powers` is safe and ends: at most one agrees for each that is compared. Assumes nothing.
-use Prim.Native.Nat.{_≤_, _-_}
+use Prim.Native.Nat.{_-_, _≤_}
 use borrow.Author.Needs.{needs}
 use Rattle.h0_rows.proofs.compare_powers.Statement.{statement}
 use Rattle.h0_rows.proofs.compare_powers.Tie as tie
 
 abbrev Inv-loop : tie.InvT-loop
-Inv-loop agree₀ cell₀ agree cell = (agree ≤ cell) × (cell ≤ 160)
+Inv-loop file agree₀ cell₀ agree cell = (agree ≤ cell) × (cell ≤ 160)
 
 abbrev μ-loop : tie.MeasureT-loop
-μ-loop agree₀ cell₀ agree cell = 160 - cell
+μ-loop file agree₀ cell₀ agree cell = 160 - cell
 
 loop-holds : tie.Need-loop-holds Inv-loop μ-loop
 loop-holds c = search needs
@@ -34,4 +34,13 @@ returns c = search needs
 pub compare-powers-spec : {M : Type 1} → statement M
 compare-powers-spec =
     tie.close
-    (tie.spec Inv-loop μ-loop loop-holds compare-power-requires add-agree add-cell loop-less loop-again returns)
+    (tie.spec
+    Inv-loop
+    μ-loop
+    loop-holds
+    compare-power-requires
+    add-agree
+    add-cell
+    loop-less
+    loop-again
+    returns)
