@@ -39,7 +39,7 @@ pub fn compare(
 ) -> Tally {
     let mut whole = [MARK; outputs::LENGTH];
     let mut parts = [MARK; outputs::LENGTH];
-    let w = expand_whole(file, holidays, p, &mut whole);
+    let w = expand_all(file, holidays, p, p.carry, &mut whole);
     let j = expand_parts(file, holidays, p, cut, &whole, &mut parts);
     let agree = answers_agree(w, j) && outputs::has_figures(&parts, &whole, w.count);
     if !agree {
@@ -51,10 +51,6 @@ pub fn compare(
 // The whole has to be accepted.
 fn answers_agree(w: ExpansionReport, j: Joined) -> bool {
     w.number == 0 && w.count == j.count && w.total == j.total && w.carry == j.carry
-}
-
-fn expand_whole(file: &[u8], holidays: &[u32], p: Period, whole: &mut [u32]) -> ExpansionReport {
-    expand(file, holidays, p, 0, p.days, p.carry, whole)
 }
 
 fn expand_parts(
@@ -113,7 +109,7 @@ fn refused_call(
     whole: &[u32; outputs::LENGTH],
     parts: &mut [u32; outputs::LENGTH],
 ) -> Joined {
-    let r = expand_refused(file, holidays, p, parts);
+    let r = expand_all(file, holidays, p, 40_000, parts);
     let right = is_refusal(r) && outputs::has_figures(parts, whole, j.count);
     Joined {
         count: j.count,
@@ -127,8 +123,14 @@ fn is_refusal(r: ExpansionReport) -> bool {
     r.number == 11 && r.place == 0 && r.count == 0 && r.total == 0 && r.carry == 0
 }
 
-fn expand_refused(file: &[u8], holidays: &[u32], p: Period, parts: &mut [u32]) -> ExpansionReport {
-    expand(file, holidays, p, 0, p.days, 40_000, parts)
+fn expand_all(
+    file: &[u8],
+    holidays: &[u32],
+    p: Period,
+    carry: u32,
+    out: &mut [u32],
+) -> ExpansionReport {
+    expand(file, holidays, p, 0, p.days, carry, out)
 }
 
 // Expands the period's days from one on to before another.

@@ -5,7 +5,7 @@ use crate::cutting::Period;
 use crate::dates;
 use crate::file;
 use crate::tally;
-ghost use Prim.Native.Nat.{_<_, _≤_};
+ghost use Prim.Native.Nat.{_<_};
 
 // Twelve for each of 40 periods.
 pub const NUMBERS: usize = 480;
@@ -21,20 +21,8 @@ pub fn fill(numbers: &mut [u32; NUMBERS]) {
     }
 }
 
-pub fn run(numbers: &[u32; NUMBERS]) {
-    let mut file = [0u8; file::LENGTH];
-    file::make(&mut file);
-    let mut holidays = [0u32; file::HOLIDAYS];
-    file::list(&mut holidays);
-    compare_all(&file, &holidays, numbers);
-}
-
 // Each of 40 periods with three cuts.
-fn compare_all(
-    file: &[u8; file::LENGTH],
-    holidays: &[u32; file::HOLIDAYS],
-    numbers: &[u32; NUMBERS],
-) {
+pub fn run(file: &[u8; file::LENGTH], holidays: &[u32; file::HOLIDAYS], numbers: &[u32; NUMBERS]) {
     let mut t = tally::none();
     let mut k: usize = 0;
     while k < 120 {
@@ -54,8 +42,8 @@ fn period(numbers: &[u32; NUMBERS], i: usize) -> Period
         group: group(numbers[i * 12 + 1]),
         first: dates::after(19_960_101, before),
         days: least(1 + numbers[i * 12 + 2] % 1461, dates::SPAN - before),
-        yearly: yearly(numbers[i * 12 + 3]),
-        carry: carry(numbers[i * 12 + 4]),
+        yearly: numbers[i * 12 + 3] % 1_000_000_001,
+        carry: numbers[i * 12 + 4] % 40_000,
     }
 }
 
@@ -92,14 +80,6 @@ pub fn group(number: u32) -> u8 {
         1 => 1,
         _ => 10,
     }
-}
-
-pub fn yearly(number: u32) -> u32 {
-    number % 1_000_000_001
-}
-
-pub fn carry(number: u32) -> u32 {
-    number % 40_000
 }
 
 fn least(a: u32, b: u32) -> u32 {

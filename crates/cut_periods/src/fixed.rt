@@ -5,10 +5,11 @@ use crate::cutting::Period;
 use crate::drawn;
 use crate::file;
 use crate::tally;
-ghost use Prim.Native.Nat.{_<_, _≤_};
+ghost use Prim.Native.Nat.{_<_};
 
 // The first date, how many days, and how many of them before the day: 26 March 2000, 29 October 2000, 1 January 2000,
-// 29 February 2000, 31 March 1996, 24 December 2099, 1 January 2002, 29 October 2000.
+// 29 February 2000, 31 March 1996, 24 December 2099, 1 January 2002, 29 October 2000. The fifth begins with the span, the
+// sixth ends with it, and the last two have 1,461 days.
 const PERIODS: [[u32; 3]; 8] = [
     [20000324, 5, 2],
     [20001027, 5, 2],
@@ -20,16 +21,8 @@ const PERIODS: [[u32; 3]; 8] = [
     [20000327, 1461, 216],
 ];
 
-pub fn run(numbers: &[u32; drawn::NUMBERS]) {
-    let mut file = [0u8; file::LENGTH];
-    file::make(&mut file);
-    let mut holidays = [0u32; file::HOLIDAYS];
-    file::list(&mut holidays);
-    compare_all(&file, &holidays, numbers);
-}
-
 // Each period with each group and each cut.
-fn compare_all(
+pub fn run(
     file: &[u8; file::LENGTH],
     holidays: &[u32; file::HOLIDAYS],
     numbers: &[u32; drawn::NUMBERS],
@@ -44,6 +37,7 @@ fn compare_all(
     tally::write(b"fixed periods:", t);
 }
 
+// Use and carry are drawn.
 fn period(numbers: &[u32; drawn::NUMBERS], k: usize) -> Period
     requires { ⌜ k < 72 ⌝ }
 {
@@ -51,11 +45,12 @@ fn period(numbers: &[u32; drawn::NUMBERS], k: usize) -> Period
         group: drawn::group(k as u32 / 3),
         first: PERIODS[k / 9][0],
         days: PERIODS[k / 9][1],
-        yearly: drawn::yearly(numbers[k]),
-        carry: drawn::carry(numbers[k + 72]),
+        yearly: numbers[k] % 1_000_000_001,
+        carry: numbers[k + 72] % 40_000,
     }
 }
 
+// Before the day, after it, or both.
 fn cut(k: usize) -> Cut
     requires { ⌜ k < 72 ⌝ }
 {

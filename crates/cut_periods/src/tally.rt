@@ -5,13 +5,14 @@ use crate::cutting::Period;
 use expanding::ExpansionReport;
 use libc::STDOUT_FILENO;
 
-// How many cuts were tried, how many of them agree, how many refused calls changed nothing, and how many figures were
-// compared.
+// How many cuts were tried, how many of them agree, how many refused calls changed nothing, how many figures were compared,
+// and what they come to in Wh.
 pub struct Tally {
     pub cuts: u64,
     pub agree: u64,
     pub refused: u64,
     pub figures: u64,
+    pub energy: u64,
 }
 
 pub fn none() -> Tally {
@@ -20,6 +21,7 @@ pub fn none() -> Tally {
         agree: 0,
         refused: 0,
         figures: 0,
+        energy: 0,
     }
 }
 
@@ -30,6 +32,7 @@ pub fn with(t: Tally, agree: bool, joined: Joined) -> Tally {
         agree: plus(t.agree, one_if(agree)),
         refused: plus(t.refused, joined.refused),
         figures: plus(t.figures, joined.count as u64),
+        energy: plus(t.energy, joined.total),
     }
 }
 
@@ -51,7 +54,9 @@ pub fn write(text: &[u8], t: Tally) {
     io::write_all(STDOUT_FILENO, text);
     io::write_all(STDOUT_FILENO, b" figures");
     write_number(t.figures);
-    io::write_all(STDOUT_FILENO, b" compared\n");
+    io::write_all(STDOUT_FILENO, b" compared,");
+    write_number(t.energy);
+    io::write_all(STDOUT_FILENO, b" Wh\n");
 }
 
 fn write_of(text: &[u8], kind: &[u8], agree: u64, all: u64) {

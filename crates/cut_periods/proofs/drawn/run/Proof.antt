@@ -1,8 +1,8 @@
--- `cut_periods::drawn::compare_all` is safe and ends: the measure is what is left of the cuts. Assumes nothing.
+-- `cut_periods::drawn::run` is safe and ends: the measure is what is left of the cuts. Assumes nothing.
 use Prim.Native.Nat.{_-_, _≤_}
 use borrow.Author.Needs.{needs}
-use Rattle.cut_periods.proofs.drawn.compare_all.Statement.{statement}
-use Rattle.cut_periods.proofs.drawn.compare_all.Tie as tie
+use Rattle.cut_periods.proofs.drawn.run.Statement.{statement}
+use Rattle.cut_periods.proofs.drawn.run.Tie as tie
 
 abbrev Inv-loop : tie.InvT-loop
 Inv-loop file holidays numbers t₀ k₀ t7 t k = k ≤ 120
@@ -43,8 +43,8 @@ write-requires c κs = search needs
 returns : tie.Need-returns Inv-loop μ-loop
 returns c = search needs
 
-pub compare-all-spec : {M : Type 1} → statement M
-compare-all-spec =
+pub run-spec : {M : Type 1} → statement M
+run-spec =
     tie.close
     (tie.spec
     Inv-loop
