@@ -22,6 +22,7 @@ pub enum DayAnswer {
 }
 
 // The answer as document 01's figures: number and place, 0 when accepted, and the day's figures, 0 when refused.
+#[repr(C)]
 pub struct DayReport {
     pub number: u32,
     pub place: usize,

@@ -5,10 +5,11 @@ use refusal::Refusal;
 use refusal::Verdict;
 use series::Totals;
 ghost use mathlib.Core.Path.{_≡_};
+ghost use mathlib.Core.List.{[]};
 ghost use Rattle.refusal.specs.Verdict.{_then_};
 ghost use Rattle.calendar.specs.Holidays.{holidaysQuestion};
 ghost use Rattle.period.specs.Period.{periodCheck};
-ghost use Rattle.expanding.specs.Expanding.{request, useQuestion, carryQuestion, Expands, reported};
+ghost use Rattle.expanding.specs.Expanding.{request, requestCheck, useQuestion, carryQuestion, Expands, reported};
 
 // What expanding answers: count, total and last carry, or the refusal.
 pub enum Expansion {
@@ -17,6 +18,7 @@ pub enum Expansion {
 }
 
 // The answer as document 01's figures: number and place, 0 when accepted, and count, total and carry, 0 when refused.
+#[repr(C)]
 pub struct ExpansionReport {
     pub number: u32,
     pub place: usize,
@@ -62,6 +64,25 @@ fn request_questions(first: u32, last: u32, holidays: &[u32], yearly: u32, carry
         return v;
     };
     carry_question(carry)
+}
+
+// Questions 1 to 11: all that is asked of a request but the length of its output.
+pub fn check_request(
+    file: &[u8],
+    group: u8,
+    first: u32,
+    last: u32,
+    holidays: &[u32],
+    yearly: u32,
+    carry: u32,
+) -> Verdict
+    ensures { λ r. ⌜ r ≡ requestCheck (request (now (file .entry)) group first last (now (holidays .entry)) yearly carry []) ⌝ }
+{
+    let v = profile::group::check(file, group);
+    let Verdict::Pass = v else {
+        return v;
+    };
+    request_questions(first, last, holidays, yearly, carry)
 }
 
 // Fills the output from its start with the figures of the period's quarter hours and keeps what is beyond; a refusal changes

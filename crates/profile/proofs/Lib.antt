@@ -6,3 +6,4 @@ pub mod Locating
 pub mod Strides
 pub mod Tables
 pub mod Words
+pub mod Places

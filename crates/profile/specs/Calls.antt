@@ -10,6 +10,7 @@ use Rattle.refusal.specs.declared.Refusal.the-variants.{ShortOutput}
 use Rattle.refusal.specs.declared.Verdict.{Verdict}
 use Rattle.refusal.specs.declared.Verdict.the-variants.{Pass, Refused}
 use Rattle.refusal.specs.Verdict.{number, place, ask, _then_, onPass, lentAfter}
+use Rattle.profile.specs.declared.group.LocatedPart.{LocatedPart}
 use Rattle.profile.specs.declared.comparing.Comparison.{Comparison}
 use Rattle.profile.specs.declared.comparing.ComparisonReport.{ComparisonReport}
 use Rattle.profile.specs.declared.comparing.Comparison.the-variants.{Alike, Different}
@@ -27,6 +28,10 @@ located file group = onPass (check file group) (take (layoutOf file .values * 2)
 pub record Located (file : RefT (List ℕ)) (group : ℕ) (part : RefT (List ℕ)) : Type 0 where
   pub bytes : now part ≡ located (now file) group
   pub start : part .ptr ≡ (file .ptr .0, file .ptr .1 + locatedAt (now file) group)
+
+-- the same part by its offset and its length
+abbrev pub locatedPart : List ℕ → ℕ → LocatedPart
+locatedPart file group = record { offset = locatedAt file group; length = length (located file group) }
 
 -- Reading: questions 1 to 6 and 12 ("place = entries needed")
 abbrev pub readCheck : List ℕ → ℕ → ℕ → Verdict

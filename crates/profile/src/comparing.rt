@@ -15,6 +15,7 @@ pub enum Comparison {
 }
 
 // The answer in figures: number and place are 0 when the groups were compared.
+#[repr(C)]
 pub struct ComparisonReport {
     pub number: u32,
     pub place: usize,

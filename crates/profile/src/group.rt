@@ -6,8 +6,15 @@ ghost use mathlib.Core.Path.{_≡_};
 ghost use Prim.Native.Nat.{_+_, _≤_};
 ghost use lib.ListN.{length};
 ghost use Rattle.profile.specs.File.{layoutOf, profileLength, groupIn, check};
-ghost use Rattle.profile.specs.Calls.{Located};
+ghost use Rattle.profile.specs.Calls.{Located, locatedPart};
 ghost use Rattle.profile.specs.Inside.{LaidOut, ValuesOf};
+
+// A part of a file by its place: what stands for `locate`'s answer where no slice can be handed back.
+#[repr(C)]
+pub struct LocatedPart {
+    pub offset: usize,
+    pub length: usize,
+}
 
 // Where the group's code stands, in a file of the length that its header says.
 pub fn find(file: &[u8], group: u8) -> Found
@@ -66,4 +73,25 @@ pub fn locate(file: &[u8], group: u8) -> &[u8]
         return nothing;
     };
     values_of(file, at)
+}
+
+// Where the group's own value bytes begin, and how many they are; both 0 on a refusal.
+pub fn located_part(file: &[u8], group: u8) -> LocatedPart
+    ensures { λ r. ⌜ r ≡ locatedPart (now (file .entry)) group ⌝ }
+{
+    let nothing = LocatedPart {
+        offset: 0,
+        length: 0,
+    };
+    let Verdict::Pass = crate::file::check_file(file) else {
+        return nothing;
+    };
+    let Found::At(at) = find(file, group) else {
+        return nothing;
+    };
+    let layout = crate::file::layout_of(file);
+    LocatedPart {
+        offset: at + layout.before,
+        length: layout.values * 2,
+    }
 }

@@ -5,12 +5,12 @@ use mathlib.Core.Bool.{Bool, true, false}
 use mathlib.Core.List.{List, _++_}
 use lib.ListN.{length, drop}
 use Rattle.refusal.specs.declared.Refusal.{Refusal}
-use Rattle.refusal.specs.declared.Refusal.the-variants.{NoMark, WrongVersion, WrongLength, BadCode, BadValue, NoGroup, BadDate, BadPeriod, BadHoliday, BadUse, BadCarry, ShortOutput}
+use Rattle.refusal.specs.declared.Refusal.the-variants.{NoMark, WrongVersion, WrongLength, BadCode, BadValue, NoGroup, BadDate, BadPeriod, BadHoliday, BadUse, BadCarry, ShortOutput, BadInput}
 use Rattle.refusal.specs.declared.Verdict.{Verdict}
 use Rattle.refusal.specs.declared.Verdict.the-variants.{Pass, Refused}
 
 infixr 5 _then_
--- the questions' numbers, 1 to 12
+-- the questions' numbers, 1 to 13
 abbrev pub refusalNumber : Refusal → ℕ
 refusalNumber NoMark = 1
 refusalNumber WrongVersion = 2
@@ -24,6 +24,7 @@ refusalNumber (BadHoliday index) = 9
 refusalNumber BadUse = 10
 refusalNumber BadCarry = 11
 refusalNumber (ShortOutput needed) = 12
+refusalNumber BadInput = 13
 
 -- "Place is 0 where none is named."
 abbrev pub refusalPlace : Refusal → ℕ
@@ -39,6 +40,7 @@ refusalPlace (BadHoliday index) = index
 refusalPlace BadUse = 0
 refusalPlace BadCarry = 0
 refusalPlace (ShortOutput needed) = needed
+refusalPlace BadInput = 0
 
 -- "number and place, both 0 when all pass"
 abbrev pub number : Verdict → ℕ

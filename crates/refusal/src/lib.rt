@@ -16,6 +16,7 @@ pub enum Refusal {
     BadUse,
     BadCarry,
     ShortOutput(usize),
+    BadInput,
 }
 
 // Every question asked passed, or the first one that did not.
@@ -40,6 +41,7 @@ fn refusal_number(r: Refusal) -> u32
         Refusal::BadUse => 10,
         Refusal::BadCarry => 11,
         Refusal::ShortOutput(_) => 12,
+        Refusal::BadInput => 13,
     }
 }
 
@@ -59,6 +61,7 @@ fn refusal_place(r: Refusal) -> usize
         Refusal::BadUse => 0,
         Refusal::BadCarry => 0,
         Refusal::ShortOutput(needed) => needed,
+        Refusal::BadInput => 0,
     }
 }
 

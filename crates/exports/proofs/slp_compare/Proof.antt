@@ -1,0 +1,19 @@
+-- `exports::slp_compare` meets its contract: the call's own contract, by the figures of its answer.
+-- Assumes nothing.
+use mathlib.Core.Path.{_∙_, ap}
+use Rattle.profile.specs.Calls.{reportedComparison}
+use borrow.Author.Needs.{needs}
+use Rattle.exports.proofs.slp_compare.Statement.{statement}
+use Rattle.exports.proofs.slp_compare.Tie as tie
+
+compare-requires : tie.Need-compare-requires
+compare-requires c κs = search needs
+
+report-requires : tie.Need-report-requires
+report-requires c κs = search needs
+
+returns : tie.Need-returns
+returns c = c .report .ensures ∙ ap reportedComparison (c .before .compare .ensures)
+
+pub slp-compare-spec : {M : Type 1} → statement M
+slp-compare-spec = tie.close (tie.spec compare-requires report-requires returns)

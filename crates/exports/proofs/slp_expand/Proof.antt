@@ -1,0 +1,24 @@
+-- `exports::slp_expand` meets its contract: the call's own contract, by the figures of its answer.
+-- Assumes nothing.
+use mathlib.Core.Path.{_∙_, ap}
+use Rattle.expanding.specs.Expanding.{reported}
+use borrow.Author.Needs.{needs}
+use Rattle.exports.proofs.slp_expand.Statement.{statement}
+use Rattle.exports.proofs.slp_expand.Tie as tie
+
+expand-requires : tie.Need-expand-requires
+expand-requires c κs = search needs
+
+report-requires : tie.Need-report-requires
+report-requires c κs = search needs
+
+same-length : tie.Need-same-length
+same-length c = search needs
+
+returns : tie.Need-returns
+returns c =
+    let call = c .before .before .before .expand .ensures in
+    (c .report .ensures ∙ ap reported (call .answers), call .leaves)
+
+pub slp-expand-spec : {M : Type 1} → statement M
+slp-expand-spec = tie.close (tie.spec expand-requires report-requires same-length returns)

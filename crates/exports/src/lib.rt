@@ -1,0 +1,97 @@
+// The calls of document 01 for other languages: numbers and slices in, structs of numbers out. A slice goes as a pointer and a
+// length. Each has the contract of the call that it makes, by the figures of its answer.
+use enquiry::DayReport;
+use expanding::ExpansionReport;
+use profile::comparing::ComparisonReport;
+use profile::group::LocatedPart;
+ghost use mathlib.Core.Path.{_≡_};
+ghost use lib.ListN.{length};
+ghost use Rattle.profile.specs.File.{check};
+ghost use Rattle.profile.specs.Calls.{locatedPart, readCheck, tableAfter, comparison, reportedComparison};
+ghost use Rattle.writing.specs.Writing.{writeCheck, bufferAfter};
+ghost use Rattle.enquiry.specs.Enquiry.{dayEnquiry, reported as reportedDay};
+ghost use Rattle.expanding.specs.Expanding.{request, expansion, outputAfter, reported as reportedExpansion};
+ghost use Rattle.exports.specs.Exports.{reportedCheck};
+
+#[repr(C)]
+pub struct CheckReport {
+    pub number: u32,
+    pub place: usize,
+}
+
+fn report_check(v: refusal::Verdict) -> CheckReport
+    ensures { λ r. ⌜ r ≡ reportedCheck v ⌝ }
+{
+    CheckReport {
+        number: refusal::number_of(v),
+        place: refusal::place_of(v),
+    }
+}
+
+// Questions 1 to 6.
+#[no_mangle]
+pub extern "C" fn slp_check(file: &[u8], group: u8) -> CheckReport
+    ensures { λ r. ⌜ r ≡ reportedCheck (check (now (file .entry)) group) ⌝ }
+{
+    report_check(profile::group::check(file, group))
+}
+
+// Where a group's value bytes stand in the file.
+#[no_mangle]
+pub extern "C" fn slp_locate(file: &[u8], group: u8) -> LocatedPart
+    ensures { λ r. ⌜ r ≡ locatedPart (now (file .entry)) group ⌝ }
+{
+    profile::group::located_part(file, group)
+}
+
+// Reads a group's values into a table.
+#[no_mangle]
+pub extern "C" fn slp_read(file: &[u8], group: u8, table: &mut [u16]) -> CheckReport
+    ensures { λ r. ⌜ r ≡ reportedCheck (readCheck (now (file .entry)) group (length (now (table .entry)))) ⌝ }
+    ensures { λ r. ⌜ now (table .exit) ≡ tableAfter (now (file .entry)) group (now (table .entry)) ⌝ }
+{
+    report_check(profile::reading::read(file, group, table))
+}
+
+// Writes a profile file into a buffer.
+#[no_mangle]
+pub extern "C" fn slp_write(codes: &[u8], values: &[u16], buffer: &mut [u8]) -> CheckReport
+    ensures { λ r. ⌜ r ≡ reportedCheck (writeCheck (now (codes .entry)) (now (values .entry)) (length (now (buffer .entry)))) ⌝ }
+    ensures { λ r. ⌜ now (buffer .exit) ≡ bufferAfter (now (codes .entry)) (now (values .entry)) (now (buffer .entry)) ⌝ }
+{
+    report_check(writing::write(codes, values, buffer))
+}
+
+// Compares two groups.
+#[no_mangle]
+pub extern "C" fn slp_compare(file: &[u8], first: u8, second: u8) -> ComparisonReport
+    ensures { λ r. ⌜ r ≡ reportedComparison (comparison (now (file .entry)) first second) ⌝ }
+{
+    profile::comparing::report(profile::comparing::compare(file, first, second))
+}
+
+// The day enquiry.
+#[no_mangle]
+pub extern "C" fn slp_day(date: u32, holidays: &[u32]) -> DayReport
+    ensures { λ r. ⌜ r ≡ reportedDay (dayEnquiry date (now (holidays .entry))) ⌝ }
+{
+    enquiry::report(enquiry::enquire(date, holidays))
+}
+
+// Expanding.
+#[no_mangle]
+pub extern "C" fn slp_expand(
+    file: &[u8],
+    group: u8,
+    first: u32,
+    last: u32,
+    holidays: &[u32],
+    yearly: u32,
+    carry: u32,
+    out: &mut [u32],
+) -> ExpansionReport
+    ensures { λ r. ⌜ r ≡ reportedExpansion (expansion (request (now (file .entry)) group first last (now (holidays .entry)) yearly carry (now (out .entry)))) ⌝ }
+    ensures { λ r. ⌜ now (out .exit) ≡ outputAfter (request (now (file .entry)) group first last (now (holidays .entry)) yearly carry (now (out .entry))) ⌝ }
+{
+    expanding::report(expanding::expand(file, group, first, last, holidays, yearly, carry, out))
+}

@@ -1,0 +1,3 @@
+pub mod Complete
+pub mod Entries
+pub mod Longs

@@ -1,0 +1,4 @@
+pub mod Fields
+pub mod DayLine
+pub mod LineByLine
+pub mod Rows

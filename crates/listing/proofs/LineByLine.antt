@@ -1,0 +1,117 @@
+-- A period's lines, one after the other: what is put, with the lines of the days left, is the whole. Laws for the loop's start, turn
+-- and end. The totals follow by series' law of the days left.
+-- Assumes nothing.
+use mathlib.Core.Path.{_≡_, refl, sym, _∙_}
+use mathlib.Core.List.{List, [], _++_, append-nil, append-assoc}
+use Prim.Native.Nat.{ℕ, zero, suc, _+_, _-_, _*_, _≤_, _<_}
+use native.Mathlib.Omega.{arith}
+use lib.ListN.{length}
+use Rattle.calendar.specs.declared.dates.Date.{Date}
+use Rattle.calendar.specs.Dates.{nextDay}
+use Rattle.carry.specs.Carry.{sum, lastCarry}
+use Rattle.period.specs.declared.CalendarDay.{CalendarDay}
+use Rattle.period.specs.CalendarDay.{calendarDay}
+use Rattle.period.proofs.Days.{values-small}
+use Rattle.profile.specs.Inside.{wordsOf}
+use Rattle.series.specs.Loop.{GroupPart, InRange, RealDays}
+use Rattle.series.proofs.SeriesLaws.{length-quarters}
+use Rattle.series.proofs.OneDay.{dayPowers, group-values}
+use Rattle.series.proofs.DayByDay.{start, powersFrom, length-powers, whole-fits, DaysLeft, all-done, day-room, day-turn}
+use Rattle.text.specs.Text.{Put}
+use Rattle.text.proofs.Puts.{put-length, put-put}
+use Rattle.listing.specs.declared.Lines.{Lines}
+use Rattle.listing.specs.Listing.{rowOf, rows, dayFigures, dayLine, dayLines}
+use Rattle.listing.specs.Pages.{DayRoom, DayListed, Listed}
+
+-- the lines of some days, begun with a carry
+abbrev pub linesFrom : List ℕ → ℕ → List ℕ → ℕ → ℕ → Date → ℕ → List ℕ
+linesFrom part group holidays yearly n d carry = dayLines holidays (rows (wordsOf part) group holidays yearly n d carry)
+
+module _ (part : List ℕ) (group : ℕ) (holidays : List ℕ) (yearly : ℕ) where
+  lines-none : (n : ℕ) (d : Date) (carry : ℕ) → n ≤ 0 → linesFrom part group holidays yearly n d carry ≡ []
+  unfolding rows dayLines
+  lines-none zero d carry h = refl
+  lines-none (suc n) d carry h = absurd (omega arith)
+
+  lines-next : (n : ℕ) (d : Date) (carry : ℕ) → 0 < n →
+      linesFrom part group holidays yearly n d carry
+      ≡ dayLine holidays (rowOf d (length (dayFigures (wordsOf part) group holidays yearly d carry)) (sum (dayFigures (wordsOf part) group holidays yearly d carry)))
+      ++ linesFrom part group holidays yearly (n - 1) (nextDay d) (lastCarry yearly (dayPowers part group holidays d) carry)
+  unfolding rows dayLines
+  lines-next zero d carry h = absurd (omega arith)
+  lines-next (suc n) d carry h =
+      let one : suc n - 1 ≡ n = omega arith in rw one
+
+-- the lines of the days left are still to come
+pub record LinesLeft (part : List ℕ) (group : ℕ) (holidays : List ℕ) (yearly days : ℕ) (first : Date) (entry : List ℕ) (day : CalendarDay) (left : ℕ) (soFar : Lines) (page : List ℕ) : Type 0 where
+  -- the figures as series' law has them stored; no page holds them
+  pub out : List ℕ
+  pub totals : DaysLeft part group holidays yearly (powersFrom part group holidays days first) 0 (powersFrom part group holidays days first) day left (soFar .totals) out
+  pub text : List ℕ
+  pub put : Put text entry 0 (soFar .at) page
+  pub linesLeft : text ++ linesFrom part group holidays yearly left (day .date) (soFar .totals .carry) ≡ linesFrom part group holidays yearly days first 0
+  pub short : soFar .at + 39 * left ≤ 39 * days
+  pub room : 39 * days ≤ length entry
+  pub few : length (powersFrom part group holidays days first) ≤ 146_100
+
+pub begin : {part : List ℕ} (bytes : GroupPart part) (group : ℕ) (holidays : List ℕ) {yearly days : ℕ} {day : CalendarDay} {entry : List ℕ} →
+    RealDays day days → InRange yearly 0 → 57_000 ≤ length entry →
+    LinesLeft part group holidays yearly days (day .date) entry day days (record { at = 0; totals = record { count = 0; total = 0; carry = 0 } }) entry
+begin {part} bytes group holidays {yearly} {days} {day} real range room =
+    let few = real .few in
+    record {
+      out = powersFrom part group holidays days (day .date);
+      totals = record { real = real; todo = start (range .carrySmall) (omega arith) (whole-fits bytes group holidays range real) };
+      text = [];
+      put = record { page = refl; behind = refl };
+      linesLeft = refl;
+      short = omega arith;
+      room = omega arith;
+      few = omega (arith, length-powers part group holidays days (day .date), length-quarters (wordsOf part) group holidays days (day .date) (group-values bytes), values-small days (day .date));
+    }
+
+module _ {part : List ℕ} {group : ℕ} {holidays : List ℕ} {yearly days : ℕ} {first : Date} {entry : List ℕ} {day : CalendarDay} {left : ℕ} {soFar : Lines} {page : List ℕ}
+    (l : LinesLeft part group holidays yearly days first entry day left soFar page) where
+  pub page-length : length page ≡ length entry
+  page-length =
+      let at = l .put .behind in
+      put-length (l .put) (omega arith)
+
+  pub end : left ≤ 0 → Listed (wordsOf part) group holidays yearly days first entry soFar page
+  end none =
+      let all : l .text ≡ linesFrom part group holidays yearly days first 0 =
+      sym (append-nil (l .text)) ∙ (rw (lines-none part group holidays yearly left (day .date) (soFar .totals .carry) none) at (l .linesLeft)) in
+      record {
+        lines = rw all at (l .put);
+        totals = rw (length-powers part group holidays days first) at (all-done (l .totals) none .totals);
+        short = omega (arith, l .short);
+      }
+
+  module _ (some : 0 < left) where
+    pub line-room : DayRoom (wordsOf part) group holidays yearly (day .date) soFar page
+    line-room =
+        let kept = page-length in
+        record {
+          line = omega (arith, l .short, l .room);
+          count = omega (arith, l .totals .todo .countLeft, l .few);
+          total = day-room (l .totals) some .total;
+        }
+
+    pub turn : {r : Lines} {after : List ℕ} {next : CalendarDay} → DayListed (wordsOf part) group holidays yearly (day .date) soFar page r after →
+        next ≡ calendarDay (nextDay (day .date)) → LinesLeft part group holidays yearly days first entry next (left - 1) r after
+    turn {r} did e =
+        let at = l .put .behind in
+        let room = l .room in
+        let short = l .short in
+        let line = did .line .behind in
+        let step = did .short in
+        record {
+          out = _;
+          totals = day-turn (l .totals) some (record { stored = refl; count = did .count; total = did .total; carry = did .carry }) e;
+          text = _;
+          put = put-put (l .put) (did .line) (omega arith);
+          linesLeft = rw (e, did .carry) (append-assoc (l .text) _ _ ∙ (rw (lines-next part group holidays yearly left (day .date) (soFar .totals .carry) some) at (l .linesLeft)));
+          short = omega arith;
+          room = room;
+          few = l .few;
+        }

@@ -1,0 +1,30 @@
+-- The rows' counts and Wh add up to the period's. By induction over the days. Assumes nothing.
+use mathlib.Core.Path.{_≡_, refl}
+use mathlib.Core.List.{_++_, map-append}
+use Prim.Native.Nat.{zero, suc}
+use native.Mathlib.Omega.{arith}
+use lib.ListN.{length, length-append, length-map}
+use Rattle.calendar.specs.Dates.{nextDay}
+use Rattle.carry.specs.Carry.{figures, lastCarry, sum}
+use Rattle.carry.specs.Energy.{powers}
+use Rattle.carry.proofs.Joining.{figures-append, sum-append, length-figures}
+use Rattle.day_powers.specs.DayQuarters.{dayQuarters}
+use Rattle.series.specs.Series.{quartersOfDays}
+use Rattle.listing.specs.Listing.{rows}
+use Rattle.listing.specs.Pages.{RowsAddUp}
+
+pub rows-add-up : RowsAddUp
+unfolding RowsAddUp rows quartersOfDays figures sum
+rows-add-up values group holidays yearly zero d carry = (refl, refl)
+rows-add-up values group holidays yearly (suc n) d carry =
+    let day = dayQuarters values group holidays d in
+    let later = quartersOfDays (dayQuarters values group holidays) n (nextDay d) in
+    let next = lastCarry yearly (powers day) carry in
+    let (counts, energy) = rows-add-up values group holidays yearly n (nextDay d) next in
+    let count : length (powers day) ≡ length day = length-map day _ in
+    let split : powers (day ++ later) ≡ powers day ++ powers later = map-append _ day later in
+    let joined : sum (figures yearly (powers (day ++ later)) carry) ≡ sum (figures yearly (powers day) carry ++ figures yearly (powers later) next) =
+    rw (split, figures-append yearly (powers day) (powers later) carry) in (
+      omega (arith, length-append day later, length-figures yearly (powers day) carry),
+      omega (arith, sum-append (figures yearly (powers day) carry) (figures yearly (powers later) next)),
+    )

@@ -1,0 +1,46 @@
+-- What the functions of this crate ask and promise of a page, and theorems about the rows.
+use mathlib.Core.Path.{_≡_}
+use mathlib.Core.List.{List, map}
+use Prim.Native.Nat.{ℕ, _+_, _*_, _^_, _≤_, _<_}
+use lib.ListN.{length}
+use Rattle.calendar.specs.declared.dates.Date.{Date}
+use Rattle.carry.specs.Carry.{figures, lastCarry, sum}
+use Rattle.carry.specs.Energy.{powers}
+use Rattle.day_powers.specs.DayQuarters.{dayQuarters}
+use Rattle.series.specs.Series.{quartersOfDays}
+use Rattle.text.specs.Text.{Put}
+use Rattle.listing.specs.declared.Lines.{Lines}
+use Rattle.listing.specs.Listing.{rowOf, rows, dayFigures, dayLine, dayLines}
+
+-- one day's line has room on a page, and its figures have room in the totals
+pub record DayRoom (values : List ℕ) (group : ℕ) (holidays : List ℕ) (yearly : ℕ) (d : Date) (before : Lines) (page : List ℕ) : Type 0 where
+  pub line : before .at + 39 ≤ length page
+  pub count : before .totals .count ≤ 146_100
+  pub total : before .totals .total + sum (dayFigures values group holidays yearly d (before .totals .carry)) < 2 ^ 64
+
+-- one day's line was put behind those before, and its figures were added to their totals
+pub record DayListed (values : List ℕ) (group : ℕ) (holidays : List ℕ) (yearly : ℕ) (d : Date) (before : Lines) (page : List ℕ) (r : Lines) (after : List ℕ) : Type 0 where
+  pub line : Put
+      (dayLine holidays (rowOf d (length (dayFigures values group holidays yearly d (before .totals .carry))) (sum (dayFigures values group holidays yearly d (before .totals .carry)))))
+      page (before .at) (r .at) after
+  pub short : r .at ≤ before .at + 39
+  pub count : r .totals .count ≡ before .totals .count + length (powers (dayQuarters values group holidays d))
+  pub total : r .totals .total ≡ before .totals .total + sum (dayFigures values group holidays yearly d (before .totals .carry))
+  pub carry : r .totals .carry ≡ lastCarry yearly (powers (dayQuarters values group holidays d)) (before .totals .carry)
+
+-- the lines of some days were put on a page, and these are the days' totals
+pub record Listed (values : List ℕ) (group : ℕ) (holidays : List ℕ) (yearly : ℕ) (days : ℕ) (d : Date) (before : List ℕ) (r : Lines) (after : List ℕ) : Type 0 where
+  pub lines : Put (dayLines holidays (rows values group holidays yearly days d 0)) before 0 (r .at) after
+  pub totals : r .totals ≡ record {
+    count = length (quartersOfDays (dayQuarters values group holidays) days d);
+    total = sum (figures yearly (powers (quartersOfDays (dayQuarters values group holidays) days d)) 0);
+    carry = lastCarry yearly (powers (quartersOfDays (dayQuarters values group holidays) days d)) 0;
+  }
+  pub short : r .at ≤ 39 * days
+
+-- "The day lines' counts and Wh add up to the last line's": for any group, days and carry. Proved in proofs/Rows.antt.
+unfoldable pub RowsAddUp : Type 0
+RowsAddUp =
+    (values : List ℕ) (group : ℕ) (holidays : List ℕ) (yearly n : ℕ) (d : Date) (carry : ℕ) →
+    (sum (map (λ row. row .count) (rows values group holidays yearly n d carry)) ≡ length (quartersOfDays (dayQuarters values group holidays) n d))
+    × (sum (map (λ row. row .wattHours) (rows values group holidays yearly n d carry)) ≡ sum (figures yearly (powers (quartersOfDays (dayQuarters values group holidays) n d)) carry))

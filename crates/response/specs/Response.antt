@@ -1,0 +1,44 @@
+-- Document 01, "The program": what it prints for an input, every byte of it.
+use mathlib.Core.Bool.{cond}
+use mathlib.Core.List.{List, _++_}
+use Prim.Native.Nat.{ℕ}
+use lib.Dec.{leb}
+use lib.ListN.{length, drop}
+use Rattle.refusal.specs.declared.Verdict.{Verdict}
+use Rattle.refusal.specs.declared.Verdict.the-variants.{Pass, Refused}
+use Rattle.refusal.specs.Verdict.{_then_}
+use Rattle.calendar.specs.Dates.{dateOf}
+use Rattle.profile.specs.File.{tableOf}
+use Rattle.expanding.specs.Expanding.{Request, daysIn, totals, requestCheck}
+use Rattle.input.specs.Input.{inputQuestion, requestIn}
+use Rattle.listing.specs.Listing.{Row, rows, dayLines, lastLine, refusedLine}
+use Rattle.response.specs.declared.Response.{Response}
+use Rattle.response.specs.declared.Response.the-variants.{Written, NoRoom}
+
+-- "Then it expands day by day from carry 0": a request's rows
+abbrev pub rowsOf : Request → List Row
+rowsOf q = rows (tableOf (q .file) (q .group)) (q .group) (q .holidays) (q .yearly) (daysIn q) (dateOf (q .first)) 0
+
+-- "The whole request is checked before the first line.": the lines of an accepted request, and the line of a refusal
+unfoldable pub linesFor : Verdict → Request → List ℕ
+linesFor Pass q = dayLines (q .holidays) (rowsOf q) ++ lastLine (daysIn q) (totals q)
+linesFor (Refused r) q = refusedLine (Refused r)
+
+-- questions 1 to 11 decide
+abbrev pub linesOf : Request → List ℕ
+linesOf q = linesFor (requestCheck q) q
+
+-- question 13 "before all others", then questions 1 to 11
+unfoldable pub printed : List ℕ → List ℕ
+printed input = linesFor (inputQuestion input then requestCheck (requestIn input)) (requestIn input)
+
+-- the room that is enough for every input
+abbrev pub pageLength : ℕ
+pageLength = 65_536
+
+-- what the call answers, and the lent page after it: with less room it does nothing
+abbrev pub responseTo : List ℕ → List ℕ → Response
+responseTo input page = cond (leb pageLength (length page)) (Written (length (printed input))) NoRoom
+
+abbrev pub pageAfter : List ℕ → List ℕ → List ℕ
+pageAfter input page = cond (leb pageLength (length page)) (printed input ++ drop (length (printed input)) page) page
