@@ -1,6 +1,6 @@
 // Expanding at its limits: the least and the greatest use, an output of just the length needed, and each question refused
 // with every later one at fault too. The lines give what `expanding` answers; the file stdout has the lines to expect,
-// which were worked out without this repository.
+// which a Python script written from document 01 gave, and not this repository.
 mod file;
 mod limits;
 mod lines;

@@ -1,4 +1,4 @@
--- Document 01, "Marked days and figures", in its order.
+-- Document 01, "Marked days and figures", in its order. Proved in proofs/Shown.antt.
 use mathlib.Core.Path.{_≡_}
 use mathlib.Core.List.{List, [], _∷_, _++_}
 use Prim.Native.Nat.{ℕ, zero, suc}

@@ -183,7 +183,7 @@ pub record OutputAlone (piece : Request) : Type 0 where
   pub others : requestCheck piece ≡ Pass
   pub answerIs : expansion piece ≡ answered (outputQuestion piece) (totals piece)
 
--- The theorem. Proved in proofs/.
+-- The theorem. Proved in proofs/Shown.antt.
 unfoldable pub SuccessiveCalls : Type 0
 SuccessiveCalls =
     ((common : Common) (start : ℕ) (calls : List Call) → start < 40_000 → Each ByContract calls → Successive common start (accepted calls) → JoinedCalls common start calls)
