@@ -1,0 +1,118 @@
+/*
+ * Quarter-hour series from VDEW load profiles: the proved library's calls for C and C++.
+ * Link target/staticlib/libexports.a, which `rt staticlib exports` writes.
+ *
+ * Every call takes any input, ends, and either does its work (number 0) or is refused by the first question of document 01
+ * that is answered "no": `number` is then that question's number, `place` the place it names (0 where it names none), every
+ * other field is 0, and lent memory keeps its content.
+ *
+ * All memory is the caller's: it is lent for the length of the call, nothing is allocated, kept or freed. A pointer points
+ * at `.._length` entries (entries, not bytes) and is not NULL, also where the length is 0. What a call writes to overlaps
+ * nothing else that the call is given. The calls have no state, so threads may call them at the same time.
+ *
+ * A group is a code: 0 is H0, 1 to 7 are G0 to G6, 8 to 10 are L0 to L2. A date is a number yyyymmdd. A list of holidays
+ * holds strictly rising dates, at most 400.
+ */
+#ifndef SLP_H
+#define SLP_H
+
+#include <stddef.h>
+#include <stdint.h>
+
+#ifdef __cplusplus
+extern "C" {
+#endif
+
+/* The values of one group: three seasons, three day types, 96 quarter hours. */
+#define SLP_GROUP_VALUES 864
+
+/* The length in bytes of a profile file with `count` groups. */
+#define SLP_FILE_LENGTH(count) (6 + 1729 * (size_t)(count))
+
+/* Enough entries of output for every period. */
+#define SLP_LONGEST_SERIES 140260
+
+/* Passed (number 0, place 0) or refused. */
+struct slp_check_report {
+    uint32_t number;
+    size_t place;
+};
+
+/* A part of the lent file: `length` bytes from byte `offset` on. */
+struct slp_located_part {
+    size_t offset;
+    size_t length;
+};
+
+/* alike is 1 where all 864 values of the two groups agree, else 0. */
+struct slp_comparison_report {
+    uint32_t number;
+    size_t place;
+    uint32_t alike;
+};
+
+/* What document 01 says of a day. */
+struct slp_day_report {
+    uint32_t number;
+    size_t place;
+    uint32_t weekday;  /* 1 Monday to 7 Sunday */
+    uint32_t t;        /* day of the year, from 1 */
+    uint32_t season;   /* 1 winter, 2 summer, 3 transition */
+    uint32_t day_type; /* 1 weekday, 2 Saturday, 3 Sunday */
+    uint32_t values;   /* 92, 96 or 100 */
+};
+
+/* What a series adds up to. */
+struct slp_expansion_report {
+    uint32_t number;
+    size_t place;
+    size_t count;   /* figures written */
+    uint64_t total; /* their sum in Wh */
+    uint32_t carry; /* left over, in 1/40,000 Wh: the carry of the next period's call */
+};
+
+/* Whether `file` is a profile file that has `group`. Questions 1 to 6. Writes nothing. */
+struct slp_check_report slp_check(const uint8_t *file, size_t file_length, uint8_t group);
+
+/*
+ * Where the 1,728 value bytes of `group` stand in `file`. Questions 1 to 6; where one is answered "no", offset and length
+ * are 0 (slp_check tells which). Writes nothing.
+ */
+struct slp_located_part slp_locate(const uint8_t *file, size_t file_length, uint8_t group);
+
+/*
+ * Reads the 864 values of `group` into the first entries of `table` and keeps those beyond. Questions 1 to 6 and 12 (place:
+ * the entries needed).
+ */
+struct slp_check_report slp_read(const uint8_t *file, size_t file_length, uint8_t group, uint16_t *table,
+                                 size_t table_length);
+
+/*
+ * Writes the profile file of the groups `codes`, with 864 entries of `values` for each in that order, into the first bytes
+ * of `buffer` and keeps those beyond. Questions 3 (1 to 11 codes, 864 values for each), 4, 5 (places as in the file to be
+ * written) and 12 (place: the bytes needed, SLP_FILE_LENGTH(codes_length)).
+ */
+struct slp_check_report slp_write(const uint8_t *codes, size_t codes_length, const uint16_t *values, size_t values_length,
+                                  uint8_t *buffer, size_t buffer_length);
+
+/* Compares two groups of `file`. Questions 1 to 6 (place in 6: 0 where `first` is missing, else 1). Writes nothing. */
+struct slp_comparison_report slp_compare(const uint8_t *file, size_t file_length, uint8_t first, uint8_t second);
+
+/* Weekday, day of the year, season, day type and value count of `date`. Questions 7 (place 0) and 9. Writes nothing. */
+struct slp_day_report slp_day(uint32_t date, const uint32_t *holidays, size_t holidays_length);
+
+/*
+ * Makes the series of `group` from `first` to `last`, both included, at most 1,461 days, for a yearly use of `yearly` kWh
+ * (at most 1,000,000,000), and writes its figures in Wh into the first entries of `out`, keeping those beyond. `carry` is 0
+ * to begin with, then what the call for the days before returned. Questions 1 to 12 (place in 12: the entries needed;
+ * SLP_LONGEST_SERIES is always enough).
+ */
+struct slp_expansion_report slp_expand(const uint8_t *file, size_t file_length, uint8_t group, uint32_t first, uint32_t last,
+                                       const uint32_t *holidays, size_t holidays_length, uint32_t yearly, uint32_t carry,
+                                       uint32_t *out, size_t out_length);
+
+#ifdef __cplusplus
+}
+#endif
+
+#endif

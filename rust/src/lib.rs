@@ -1,0 +1,317 @@
+//! Quarter-hour series from the VDEW load profiles: safe calls of the proved library.
+//!
+//! Every call takes any input and either does its work or is refused by the first question of document 01 that is answered
+//! "no". After a refusal, lent memory holds its old content; after an accepted call, the new entries and beyond them its old
+//! content.
+//!
+//! A group is a code: 0 is H0, 1 to 7 are G0 to G6, 8 to 10 are L0 to L2. A date is a number yyyymmdd. A list of holidays
+//! holds strictly rising dates, at most 400.
+//!
+//! ```
+//! let values = [1001; slp::GROUP_VALUES];
+//! let mut file = [0; slp::file_length(1)];
+//! slp::write(&[1], &values, &mut file)?;
+//!
+//! let request = slp::Request {
+//!     file: &file,
+//!     group: 1,
+//!     first: 20000325,
+//!     last: 20000326,
+//!     holidays: &[],
+//!     yearly: 1000,
+//!     carry: 0,
+//! };
+//! let mut out = [0; 188];
+//! let made = slp::expand(&request, &mut out)?;
+//! assert_eq!((made.count, made.total, made.carry), (188, 4704, 28000));
+//! # Ok::<(), slp::Refusal>(())
+//! ```
+
+pub mod csv;
+pub mod date;
+pub mod files;
+pub mod group;
+pub mod program;
+pub mod report;
+
+use std::fmt;
+
+/// The values of one group: three seasons, three day types, 96 quarter hours.
+pub const GROUP_VALUES: usize = 864;
+
+/// Enough entries of output for every period.
+pub const LONGEST_SERIES: usize = 140_260;
+
+/// The length in bytes of a profile file with `count` groups.
+///
+/// ```
+/// assert_eq!(slp::file_length(1), 1735);
+/// ```
+pub const fn file_length(count: usize) -> usize {
+    6 + (1 + 2 * GROUP_VALUES) * count
+}
+
+/// The first question of document 01 that was answered "no".
+#[derive(Debug, Clone, Copy, PartialEq, Eq)]
+pub struct Refusal {
+    /// The question's number, 1 to 12.
+    pub number: u32,
+    /// The place that the question names: an offset, an index or a length; 0 where it names none.
+    pub place: usize,
+}
+
+impl Refusal {
+    /// What was found, in words.
+    ///
+    /// ```
+    /// let refusal = slp::check(b"", 1).unwrap_err();
+    /// assert_eq!(refusal.to_string(), "this is no profile file (question 1, place 0)");
+    /// ```
+    pub fn meaning(&self) -> &'static str {
+        match self.number {
+            1 => "this is no profile file",
+            2 => "the version of the profile file is not 1",
+            3 => "the count of profiles is not 1 to 11, or the length does not fit it",
+            4 => "a group code is above 10 or not above the one before",
+            5 => "a value is above 20,000",
+            6 => "the group is not in the file",
+            7 => "a date is not real or not from 1996 to 2099",
+            8 => "the period ends before it begins or has more than 1,461 days",
+            9 => "the list of holidays is not in order or has more than 400 dates",
+            10 => "the yearly use is above 1,000,000,000 kWh",
+            11 => "the carry is above 39,999",
+            12 => "the output is too short",
+            _ => "a question that document 01 does not have",
+        }
+    }
+}
+
+impl fmt::Display for Refusal {
+    fn fmt(&self, f: &mut fmt::Formatter) -> fmt::Result {
+        write!(
+            f,
+            "{} (question {}, place {})",
+            self.meaning(),
+            self.number,
+            self.place
+        )
+    }
+}
+
+impl std::error::Error for Refusal {}
+
+/// A season of the profiles.
+#[derive(Debug, Clone, Copy, PartialEq, Eq)]
+pub enum Season {
+    /// 1 November to 20 March.
+    Winter,
+    /// 15 May to 14 September.
+    Summer,
+    /// The rest of the year.
+    Transition,
+}
+
+/// A day type of the profiles.
+#[derive(Debug, Clone, Copy, PartialEq, Eq)]
+pub enum DayType {
+    /// Monday to Friday.
+    Weekday,
+    /// Saturday; 24 and 31 December where they are no Sundays.
+    Saturday,
+    /// Sunday or holiday.
+    Sunday,
+}
+
+/// What document 01 says of a day.
+#[derive(Debug, Clone, Copy, PartialEq, Eq)]
+pub struct Day {
+    /// 1 Monday to 7 Sunday.
+    pub weekday: u32,
+    /// The day of the year, from 1.
+    pub t: u32,
+    /// The season.
+    pub season: Season,
+    /// The day type.
+    pub day_type: DayType,
+    /// How many quarter hours the day has: 92, 96 or 100.
+    pub values: u32,
+}
+
+/// What expanding is given beside its output.
+#[derive(Debug, Clone, Copy, PartialEq, Eq)]
+pub struct Request<'a> {
+    /// A profile file.
+    pub file: &'a [u8],
+    /// The group's code.
+    pub group: u8,
+    /// The first date, yyyymmdd.
+    pub first: u32,
+    /// The last date, included; at most 1,461 days in all.
+    pub last: u32,
+    /// Strictly rising dates, at most 400.
+    pub holidays: &'a [u32],
+    /// The yearly use in kWh, at most 1,000,000,000.
+    pub yearly: u32,
+    /// The carry in 1/40,000 Wh, at most 39,999: 0 to begin with, then what the call for the days before returned.
+    pub carry: u32,
+}
+
+/// What a series adds up to.
+#[derive(Debug, Clone, Copy, PartialEq, Eq)]
+pub struct Expansion {
+    /// How many figures were written.
+    pub count: usize,
+    /// Their sum in Wh.
+    pub total: u64,
+    /// What is left over, in 1/40,000 Wh.
+    pub carry: u32,
+}
+
+fn verdict(number: u32, place: usize) -> Result<(), Refusal> {
+    match number {
+        0 => Ok(()),
+        _ => Err(Refusal { number, place }),
+    }
+}
+
+/// Whether `file` is a profile file that has `group`: questions 1 to 6.
+///
+/// ```
+/// assert_eq!(slp::check(b"SLP", 1), Err(slp::Refusal { number: 1, place: 0 }));
+/// ```
+pub fn check(file: &[u8], group: u8) -> Result<(), Refusal> {
+    let report = report::check(file, group);
+    verdict(report.number, report.place)
+}
+
+/// The 1,728 value bytes of `group`, as that part of `file`; `None` where [`check`] refuses.
+///
+/// ```
+/// let mut file = [0; slp::file_length(1)];
+/// slp::write(&[1], &[258; slp::GROUP_VALUES], &mut file)?;
+/// assert_eq!(slp::locate(&file, 1), Some(&file[7..]));
+/// assert_eq!(slp::locate(&file, 2), None);
+/// # Ok::<(), slp::Refusal>(())
+/// ```
+pub fn locate(file: &[u8], group: u8) -> Option<&[u8]> {
+    let part = report::locate(file, group);
+    match part.length {
+        0 => None,
+        length => Some(&file[part.offset..part.offset + length]),
+    }
+}
+
+/// Reads the values of `group` into the first 864 entries of `table`: questions 1 to 6 and 12.
+///
+/// ```
+/// let mut file = [0; slp::file_length(1)];
+/// slp::write(&[1], &[258; slp::GROUP_VALUES], &mut file)?;
+/// let mut table = [0; slp::GROUP_VALUES];
+/// slp::read(&file, 1, &mut table)?;
+/// assert_eq!(table, [258; slp::GROUP_VALUES]);
+/// assert_eq!(slp::read(&file, 1, &mut table[1..]), Err(slp::Refusal { number: 12, place: 864 }));
+/// # Ok::<(), slp::Refusal>(())
+/// ```
+pub fn read(file: &[u8], group: u8, table: &mut [u16]) -> Result<(), Refusal> {
+    let report = report::read(file, group, table);
+    verdict(report.number, report.place)
+}
+
+/// Writes the profile file of the groups `codes`, with 864 of `values` for each in that order, into the first
+/// [`file_length`] bytes of `buffer`: questions 3, 4, 5 and 12.
+///
+/// ```
+/// let mut file = [0; slp::file_length(2)];
+/// slp::write(&[1, 8], &[258; 2 * slp::GROUP_VALUES], &mut file)?;
+/// assert_eq!(file[..9], *b"SLP\0\x01\x02\x01\x01\x02");
+/// # Ok::<(), slp::Refusal>(())
+/// ```
+pub fn write(codes: &[u8], values: &[u16], buffer: &mut [u8]) -> Result<(), Refusal> {
+    let report = report::write(codes, values, buffer);
+    verdict(report.number, report.place)
+}
+
+/// Whether all values of the two groups agree: questions 1 to 6.
+///
+/// ```
+/// let mut file = [0; slp::file_length(2)];
+/// slp::write(&[1, 8], &[258; 2 * slp::GROUP_VALUES], &mut file)?;
+/// assert_eq!(slp::compare(&file, 1, 8), Ok(true));
+/// assert_eq!(slp::compare(&file, 1, 9), Err(slp::Refusal { number: 6, place: 1 }));
+/// # Ok::<(), slp::Refusal>(())
+/// ```
+pub fn compare(file: &[u8], first: u8, second: u8) -> Result<bool, Refusal> {
+    let report = report::compare(file, first, second);
+    verdict(report.number, report.place)?;
+    Ok(report.alike == 1)
+}
+
+/// Weekday, day of the year, season, day type and value count of a date: questions 7 and 9.
+///
+/// ```
+/// let day = slp::day(20000326, &[])?;
+/// assert_eq!((day.weekday, day.t, day.values), (7, 86, 92));
+/// assert_eq!((day.season, day.day_type), (slp::Season::Transition, slp::DayType::Sunday));
+/// # Ok::<(), slp::Refusal>(())
+/// ```
+pub fn day(date: u32, holidays: &[u32]) -> Result<Day, Refusal> {
+    let report = report::day(date, holidays);
+    verdict(report.number, report.place)?;
+    Ok(Day {
+        weekday: report.weekday,
+        t: report.t,
+        season: season(report.season),
+        day_type: day_type(report.day_type),
+        values: report.values,
+    })
+}
+
+fn season(figure: u32) -> Season {
+    match figure {
+        1 => Season::Winter,
+        2 => Season::Summer,
+        3 => Season::Transition,
+        _ => unreachable!("a season is 1 to 3, not {figure}"),
+    }
+}
+
+fn day_type(figure: u32) -> DayType {
+    match figure {
+        1 => DayType::Weekday,
+        2 => DayType::Saturday,
+        3 => DayType::Sunday,
+        _ => unreachable!("a day type is 1 to 3, not {figure}"),
+    }
+}
+
+/// Makes the series of a period and writes its figures in Wh into the first entries of `out`: questions 1 to 12. An output
+/// of [`LONGEST_SERIES`] entries is always long enough.
+///
+/// Two days one at a time, the carry handed on, give what one call gives for both:
+///
+/// ```
+/// let mut file = [0; slp::file_length(1)];
+/// slp::write(&[1], &[1001; slp::GROUP_VALUES], &mut file)?;
+/// let day = slp::Request {
+///     file: &file, group: 1, first: 20000325, last: 20000325, holidays: &[], yearly: 1000, carry: 0,
+/// };
+/// let mut out = [0; 188];
+/// let one = slp::expand(&day, &mut out)?;
+/// let next = slp::Request { first: 20000326, last: 20000326, carry: one.carry, ..day };
+/// let two = slp::expand(&next, &mut out[one.count..])?;
+///
+/// let mut whole = [0; 188];
+/// let both = slp::expand(&slp::Request { last: 20000326, ..day }, &mut whole)?;
+/// assert_eq!(out, whole);
+/// assert_eq!((one.total + two.total, two.carry), (both.total, both.carry));
+/// # Ok::<(), slp::Refusal>(())
+/// ```
+pub fn expand(request: &Request, out: &mut [u32]) -> Result<Expansion, Refusal> {
+    let report = report::expand(request, out);
+    verdict(report.number, report.place)?;
+    Ok(Expansion {
+        count: report.count,
+        total: report.total,
+        carry: report.carry,
+    })
+}

@@ -1,0 +1,175 @@
+//! The calls as the library answers them: figures, with zeros where a call is refused. The functions of the crate's root
+//! answer the same as `Result`s. The structs are those of `include/slp.h`.
+#![allow(unsafe_code)]
+
+/// Passed (number 0, place 0) or refused.
+#[repr(C)]
+#[derive(Debug, Clone, Copy, PartialEq, Eq)]
+pub struct CheckReport {
+    /// The number of the question that refused the call, else 0.
+    pub number: u32,
+    /// The place that the question names, else 0.
+    pub place: usize,
+}
+
+/// A part of the lent file.
+#[repr(C)]
+#[derive(Debug, Clone, Copy, PartialEq, Eq)]
+pub struct LocatedPart {
+    /// Where in the file it begins.
+    pub offset: usize,
+    /// How many bytes it has; 0 where the call is refused.
+    pub length: usize,
+}
+
+/// The answer of comparing.
+#[repr(C)]
+#[derive(Debug, Clone, Copy, PartialEq, Eq)]
+pub struct ComparisonReport {
+    /// The number of the question that refused the call, else 0.
+    pub number: u32,
+    /// The place that the question names, else 0.
+    pub place: usize,
+    /// 1 where all values agree, else 0.
+    pub alike: u32,
+}
+
+/// The answer of the day enquiry.
+#[repr(C)]
+#[derive(Debug, Clone, Copy, PartialEq, Eq)]
+pub struct DayReport {
+    /// The number of the question that refused the call, else 0.
+    pub number: u32,
+    /// The place that the question names, else 0.
+    pub place: usize,
+    /// 1 Monday to 7 Sunday.
+    pub weekday: u32,
+    /// The day of the year, from 1.
+    pub t: u32,
+    /// 1 winter, 2 summer, 3 transition.
+    pub season: u32,
+    /// 1 weekday, 2 Saturday, 3 Sunday.
+    pub day_type: u32,
+    /// 92, 96 or 100.
+    pub values: u32,
+}
+
+/// The answer of expanding.
+#[repr(C)]
+#[derive(Debug, Clone, Copy, PartialEq, Eq)]
+pub struct ExpansionReport {
+    /// The number of the question that refused the call, else 0.
+    pub number: u32,
+    /// The place that the question names, else 0.
+    pub place: usize,
+    /// How many figures were written.
+    pub count: usize,
+    /// Their sum in Wh.
+    pub total: u64,
+    /// What is left over, in 1/40,000 Wh.
+    pub carry: u32,
+}
+
+extern "C" {
+    fn slp_check(file: *const u8, file_length: usize, group: u8) -> CheckReport;
+    fn slp_locate(file: *const u8, file_length: usize, group: u8) -> LocatedPart;
+    fn slp_read(
+        file: *const u8,
+        file_length: usize,
+        group: u8,
+        table: *mut u16,
+        table_length: usize,
+    ) -> CheckReport;
+    fn slp_write(
+        codes: *const u8,
+        codes_length: usize,
+        values: *const u16,
+        values_length: usize,
+        buffer: *mut u8,
+        buffer_length: usize,
+    ) -> CheckReport;
+    fn slp_compare(file: *const u8, file_length: usize, first: u8, second: u8) -> ComparisonReport;
+    fn slp_day(date: u32, holidays: *const u32, holidays_length: usize) -> DayReport;
+    fn slp_expand(
+        file: *const u8,
+        file_length: usize,
+        group: u8,
+        first: u32,
+        last: u32,
+        holidays: *const u32,
+        holidays_length: usize,
+        yearly: u32,
+        carry: u32,
+        out: *mut u32,
+        out_length: usize,
+    ) -> ExpansionReport;
+}
+
+// Each pointer and length below is that of one slice, borrowed for the length of the call, as `slp.h` asks; a `&mut` overlaps
+// no other borrow.
+
+/// `slp_check`.
+pub fn check(file: &[u8], group: u8) -> CheckReport {
+    unsafe { slp_check(file.as_ptr(), file.len(), group) }
+}
+
+/// `slp_locate`.
+pub fn locate(file: &[u8], group: u8) -> LocatedPart {
+    unsafe { slp_locate(file.as_ptr(), file.len(), group) }
+}
+
+/// `slp_read`.
+pub fn read(file: &[u8], group: u8, table: &mut [u16]) -> CheckReport {
+    unsafe {
+        slp_read(
+            file.as_ptr(),
+            file.len(),
+            group,
+            table.as_mut_ptr(),
+            table.len(),
+        )
+    }
+}
+
+/// `slp_write`.
+pub fn write(codes: &[u8], values: &[u16], buffer: &mut [u8]) -> CheckReport {
+    unsafe {
+        slp_write(
+            codes.as_ptr(),
+            codes.len(),
+            values.as_ptr(),
+            values.len(),
+            buffer.as_mut_ptr(),
+            buffer.len(),
+        )
+    }
+}
+
+/// `slp_compare`.
+pub fn compare(file: &[u8], first: u8, second: u8) -> ComparisonReport {
+    unsafe { slp_compare(file.as_ptr(), file.len(), first, second) }
+}
+
+/// `slp_day`.
+pub fn day(date: u32, holidays: &[u32]) -> DayReport {
+    unsafe { slp_day(date, holidays.as_ptr(), holidays.len()) }
+}
+
+/// `slp_expand`.
+pub fn expand(request: &crate::Request, out: &mut [u32]) -> ExpansionReport {
+    unsafe {
+        slp_expand(
+            request.file.as_ptr(),
+            request.file.len(),
+            request.group,
+            request.first,
+            request.last,
+            request.holidays.as_ptr(),
+            request.holidays.len(),
+            request.yearly,
+            request.carry,
+            out.as_mut_ptr(),
+            out.len(),
+        )
+    }
+}

@@ -1,0 +1,89 @@
+/* Calls every function of slp.h; document 01's listing is the example. Exits with 1 and a line for each figure that differs. */
+#include "slp.h"
+
+#include <inttypes.h>
+#include <stdio.h>
+
+static int faults = 0;
+
+static void expect(const char *what, uint64_t found, uint64_t wanted)
+{
+    if (found == wanted)
+        return;
+    printf("%s: %" PRIu64 ", not %" PRIu64 "\n", what, found, wanted);
+    faults++;
+}
+
+static const uint8_t codes[1] = {1};
+static const uint32_t no_holidays[1] = {0};
+static uint16_t values[SLP_GROUP_VALUES];
+static uint16_t table[SLP_GROUP_VALUES + 1];
+static uint8_t file[SLP_FILE_LENGTH(1)];
+static uint32_t out[189];
+
+static uint64_t sum(size_t from, size_t to)
+{
+    uint64_t s = 0;
+    for (size_t i = from; i < to; i++)
+        s += out[i];
+    return s;
+}
+
+static void file_calls(void)
+{
+    for (size_t i = 0; i < SLP_GROUP_VALUES; i++)
+        values[i] = 1001;
+    table[SLP_GROUP_VALUES] = 7;
+    expect("write", slp_write(codes, 1, values, SLP_GROUP_VALUES, file, sizeof file).number, 0);
+    expect("check", slp_check(file, sizeof file, 1).number, 0);
+    expect("check of another group", slp_check(file, sizeof file, 2).number, 6);
+    expect("read", slp_read(file, sizeof file, 1, table, SLP_GROUP_VALUES + 1).number, 0);
+    expect("first value", table[0], 1001);
+    expect("last value", table[SLP_GROUP_VALUES - 1], 1001);
+    expect("entry beyond the table", table[SLP_GROUP_VALUES], 7);
+    struct slp_located_part part = slp_locate(file, sizeof file, 1);
+    expect("offset", part.offset, 7);
+    expect("length", part.length, 1728);
+    struct slp_comparison_report same = slp_compare(file, sizeof file, 1, 1);
+    expect("compare", same.number, 0);
+    expect("alike", same.alike, 1);
+    struct slp_comparison_report missing = slp_compare(file, sizeof file, 1, 10);
+    expect("compare with a missing group", missing.number, 6);
+    expect("its place", missing.place, 1);
+}
+
+static void day_call(void)
+{
+    struct slp_day_report day = slp_day(20000326, no_holidays, 0);
+    expect("day", day.number, 0);
+    expect("weekday", day.weekday, 7);
+    expect("t", day.t, 86);
+    expect("season", day.season, 3);
+    expect("day type", day.day_type, 3);
+    expect("values", day.values, 92);
+}
+
+static void listing(void)
+{
+    out[188] = 7;
+    struct slp_expansion_report made = slp_expand(file, sizeof file, 1, 20000325, 20000326, no_holidays, 0, 1000, 0, out, 189);
+    expect("expand", made.number, 0);
+    expect("place", made.place, 0);
+    expect("count", made.count, 188);
+    expect("total", made.total, 4704);
+    expect("carry", made.carry, 28000);
+    expect("25 March", sum(0, 96), 2402);
+    expect("26 March", sum(96, 188), 2302);
+    expect("entry beyond the figures", out[188], 7);
+    struct slp_expansion_report tight = slp_expand(file, sizeof file, 1, 20000325, 20000326, no_holidays, 0, 1000, 0, out, 187);
+    expect("expand into 187 entries", tight.number, 12);
+    expect("entries needed", tight.place, 188);
+}
+
+int main(void)
+{
+    file_calls();
+    day_call();
+    listing();
+    return faults == 0 ? 0 : 1;
+}
