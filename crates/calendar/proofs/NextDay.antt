@@ -68,9 +68,10 @@ unfolding monthLength
 december year = refl
 
 -- whichever of the three it is
-counted : (d next : Date) → nextDay d ≡ next → dayNumber next ≡ dayNumber d + 1 → (numberOf d < 20991231 → isDate next ≡ true) → NextDayCounts d
-counted d next e n t =
-    record { counts = ap dayNumber e ∙ n; isDateToo = λ before. ap isDate e ∙ t before }
+counted : (d next : Date) → nextDay d ≡ next → dayNumber next ≡ dayNumber d + 1 → numberOf d < numberOf next →
+    (numberOf d < 20991231 → isDate next ≡ true) → NextDayCounts d
+counted d next e n l t =
+    record { counts = ap dayNumber e ∙ n; later = omega (arith, ap numberOf e, l); isDateToo = λ before. ap isDate e ∙ t before }
 
 pub next-day-counts : (d : Date) → isDate d ≡ true → NextDayCounts d
 next-day-counts d h = by-day (ltb (d .day) length) refl
@@ -84,21 +85,21 @@ next-day-counts d h = by-day (ltb (d .day) length) refl
     by-month : length ≤ d .day → (b : Bool) → ltb (d .month) 12 ≡ b → NextDayCounts d
     by-month l true e =
         let m : d .month < 12 = ltb-true (d .month) 12 e in
-        counted d (nextMonth d) (is-next-month d length refl l m) (next-month d h l)
+        counted d (nextMonth d) (is-next-month d length refl l m) (next-month d h l) (omega (arith, p .day-small))
         (λ before. is-date (nextMonth d) (p .year-from) (p .year-to) (omega arith) (omega arith) (omega arith)
         (omega (arith, month-large (d .year) (d .month + 1) (omega arith) (omega arith))))
     by-month l false e =
         let m : 12 ≤ d .month = ltb-false (d .month) 12 e in
         let twelve : d .month ≡ 12 = omega (arith, p .month-to) in
         let last : length ≡ 31 = ap (monthLength (d .year)) twelve ∙ december (d .year) in
-        counted d (nextYear d) (is-next-year d length refl l m) (next-year d h l m)
+        counted d (nextYear d) (is-next-year d length refl l m) (next-year d h l m) (omega (arith, p .day-small, p .month-to))
         (λ before. is-date (nextYear d) (omega (arith, p .year-from)) (omega (arith, p .year-to)) (omega arith) (omega arith) (omega arith)
         (omega (arith, month-large (d .year + 1) 1 (omega arith) (omega arith))))
 
     by-day : (b : Bool) → ltb (d .day) length ≡ b → NextDayCounts d
     by-day true e =
         let l : d .day < length = ltb-true (d .day) length e in
-        counted d (sameMonth d) (is-same-month d length refl l) (same-month d h l)
+        counted d (sameMonth d) (is-same-month d length refl l) (same-month d h l) (omega arith)
         (λ before. is-date (sameMonth d) (p .year-from) (p .year-to) (p .month-from) (p .month-to) (omega arith) (omega arith))
     by-day false e = by-month (ltb-false (d .day) length e) (ltb (d .month) 12) refl
 

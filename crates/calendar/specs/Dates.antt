@@ -66,9 +66,10 @@ nextDay d =
     (record { year = d .year; month = d .month + 1; day = 1 })
     (record { year = d .year + 1; month = 1; day = 1 }))
 
--- the next day has the next day number, and is a date unless the span is over
+-- the next day has the next day number and a later date, which is one of the span unless that is over
 pub record NextDayCounts (d : Date) : Type 0 where
   pub counts : dayNumber (nextDay d) ≡ dayNumber d + 1
+  pub later : numberOf d < numberOf (nextDay d)
   pub isDateToo : numberOf d < 20991231 → isDate (nextDay d) ≡ true
 
 -- what holds of every date; and a lent number and its date are one another's. Proved in proofs/NextDay.antt and proofs/DateLaws.antt.

@@ -30,13 +30,16 @@ listed date [] = false
 listed date (holiday ∷ holidays) = eqb holiday date || listed date holidays
 
 -- "A Sunday is a Sunday. 24 and 31 December count as Saturday. A listed holiday counts as Sunday. Then Saturdays and
--- weekdays."
-unfoldable pub dayType : Date → List ℕ → DayType
-dayType d holidays =
+-- weekdays.": of a date that is a listed holiday or not
+unfoldable pub dayTypeWhen : Date → Bool → DayType
+dayTypeWhen d holiday =
     cond (eqb (weekdayOf d) 7) Sunday
     (cond (eqb (monthDay d) 1224 || eqb (monthDay d) 1231) Saturday
-    (cond (listed (numberOf d) holidays) Sunday
+    (cond holiday Sunday
     (cond (eqb (weekdayOf d) 6) Saturday Weekday)))
+
+abbrev pub dayType : Date → List ℕ → DayType
+dayType d holidays = dayTypeWhen d (listed (numberOf d) holidays)
 
 -- the last Sunday of its month: seven days later the month is over
 unfoldable pub lastSunday : Date → Bool

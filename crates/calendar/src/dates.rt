@@ -24,7 +24,7 @@ pub fn date_of(number: u32) -> Date
     }
 }
 
-pub(crate) fn number_of(d: Date) -> u32
+pub fn number_of(d: Date) -> u32
     requires { ⌜ isDate d ≡ true ⌝ }
     ensures { λ r. ⌜ r ≡ numberOf d ⌝ }
 {

@@ -3,7 +3,7 @@ use crate::dates::Date;
 ghost use mathlib.Core.Path.{_≡_};
 ghost use mathlib.Core.Bool.{true};
 ghost use Rattle.calendar.specs.Dates.{isDate, weekdayOf};
-ghost use Rattle.calendar.specs.Days.{season, dayType, listed, lastSunday, clock, valuesUnder};
+ghost use Rattle.calendar.specs.Days.{season, dayType, dayTypeWhen, listed, lastSunday, clock, valuesUnder};
 
 pub enum Season {
     Winter,
@@ -57,10 +57,10 @@ pub fn is_listed(date: u32, holidays: &[u32]) -> bool
     false
 }
 
-// The day type, of a date whose weekday is known.
-pub fn day_type_of(d: Date, weekday: u32, holidays: &[u32]) -> DayType
+// The day type, of a date whose weekday is known, and of which it is known whether it is a listed holiday.
+pub fn day_type_when(d: Date, weekday: u32, holiday: bool) -> DayType
     requires { ⌜ (isDate d ≡ true) × (weekday ≡ weekdayOf d) ⌝ }
-    ensures { λ r. ⌜ r ≡ dayType d (now (holidays .entry)) ⌝ }
+    ensures { λ r. ⌜ r ≡ dayTypeWhen d holiday ⌝ }
 {
     let month_day = d.month * 100 + d.day;
     if weekday == 7 {
@@ -72,13 +72,22 @@ pub fn day_type_of(d: Date, weekday: u32, holidays: &[u32]) -> DayType
     if month_day == 1231 {
         return DayType::Saturday;
     }
-    if is_listed(crate::dates::number_of(d), holidays) {
+    if holiday {
         return DayType::Sunday;
     }
     if weekday == 6 {
         return DayType::Saturday;
     }
     DayType::Weekday
+}
+
+// The day type, of a date whose weekday is known.
+pub fn day_type_of(d: Date, weekday: u32, holidays: &[u32]) -> DayType
+    requires { ⌜ (isDate d ≡ true) × (weekday ≡ weekdayOf d) ⌝ }
+    ensures { λ r. ⌜ r ≡ dayType d (now (holidays .entry)) ⌝ }
+{
+    let holiday = is_listed(crate::dates::number_of(d), holidays);
+    day_type_when(d, weekday, holiday)
 }
 
 fn is_last_sunday(d: Date, weekday: u32) -> bool

@@ -120,11 +120,11 @@ stored figs before at n e h = rw (← e) (sets-eq figs before at (rw e h) ∙ ap
 module _ (powers : List ℕ) (clock : Clock) {yearly carry end begin : ℕ} {before middle : List ℕ} {at : ℕ} {first : Carried}
     (all : length powers ≡ 96) (he : end ≡ firstEnd clock) (hb : begin ≡ secondStart clock) (room : at + valuesUnder clock ≤ length before)
     (f : RangeCarried (slice 0 end powers) yearly carry before at first middle) where
-  pub second-in-day : InDay begin 96 middle (at + end)
+  pub second-in-day : InDay begin 96 powers middle (at + end)
   second-in-day =
       let s = cut clock in
       let kept = ap length (f .figuresStored) ∙ length-sets before at (figures yearly (slice 0 end powers) carry) in
-      record { ordered = omega arith; within = omega arith; room = omega arith }
+      record { ordered = omega arith; within = omega arith; whole = all; room = omega arith }
 
   pub day : {after : List ℕ} {second : Carried} → RangeCarried (slice begin 96 powers) yearly (first .carry) middle (at + end) second after →
       DayCarried powers clock yearly carry before at (record { total = first .total + second .total; carry = second .carry }) after

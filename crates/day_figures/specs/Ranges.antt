@@ -21,9 +21,10 @@ secondStart Forward = 12
 secondStart Back = 8
 
 -- a range lies in the day, and its figures have room in the output
-pub record InDay (from to : ℕ) (out : List ℕ) (at : ℕ) : Type 0 where
+pub record InDay (from to : ℕ) (day out : List ℕ) (at : ℕ) : Type 0 where
   pub ordered : from ≤ to
-  pub within : to ≤ 96
+  pub within : to ≤ length day
+  pub whole : length day ≡ 96
   pub room : at + (to - from) ≤ length out
 
 -- the figures of some powers, stored from `at` on, and what they come to

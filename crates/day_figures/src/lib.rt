@@ -38,7 +38,7 @@ fn second_start(clock: Clock) -> usize
 // Stores the figures of the positions from `from` to before `to`, from out[at] on. A figure is the growth of the quotient of the
 // sum so far: that is the document's carry step, and only the addition waits for the turn before.
 fn carry_range(
-    powers: [u32; 96],
+    powers: &[u32],
     from: usize,
     to: usize,
     yearly: u32,
@@ -46,9 +46,9 @@ fn carry_range(
     out: &mut [u32],
     at: usize,
 ) -> Carried
-    requires { ⌜ SmallPowers powers yearly carry ⌝ }
-    requires { ⌜ InDay from to (now out) at ⌝ }
-    ensures { λ r. ⌜ RangeCarried (slice from to powers) yearly carry (now (out .entry)) at r (now (out .exit)) ⌝ }
+    requires { ⌜ SmallPowers (now powers) yearly carry ⌝ }
+    requires { ⌜ InDay from to (now powers) (now out) at ⌝ }
+    ensures { λ r. ⌜ RangeCarried (slice from to (now (powers .entry))) yearly carry (now (out .entry)) at r (now (out .exit)) ⌝ }
 {
     let mut sum = carry as u64;
     let mut total: u64 = 0;
@@ -82,9 +82,9 @@ pub fn carry_day(
     ensures { λ r. ⌜ DayCarried powers clock yearly carry (now (out .entry)) at r (now (out .exit)) ⌝ }
 {
     let end = first_end(clock);
-    let first = carry_range(powers, 0, end, yearly, carry, out, at);
+    let first = carry_range(&powers, 0, end, yearly, carry, out, at);
     let second = carry_range(
-        powers,
+        &powers,
         second_start(clock),
         96,
         yearly,

@@ -1,4 +1,4 @@
--- A day table: which of the nine it is, that it has 96 values, each of them and its power, and where its bytes stand.
+-- A day table: which of the nine it is, that it has 96 values, and each of their powers.
 -- Assumes nothing.
 use mathlib.Core.Path.{_≡_, _∙_, ap}
 use mathlib.Core.List.{List}
@@ -12,9 +12,6 @@ use Rattle.calendar.specs.declared.days.Season.the-variants.{Winter, Summer, Tr
 use Rattle.calendar.specs.declared.days.DayType.{DayType}
 use Rattle.calendar.specs.declared.days.DayType.the-variants.{Weekday, Saturday, Sunday}
 use Rattle.dynamisation.specs.Dynamisation.{Q}
-use Rattle.profile.specs.File.{wordAt}
-use Rattle.profile.specs.Inside.{wordsOf}
-use Rattle.profile.proofs.Words.{length-words, getD-words}
 use Rattle.day_powers.specs.DayTable.{seasonPlace, dayTypePlace, tableAt, TableInside}
 use Rattle.day_powers.specs.DayQuarters.{powersBy}
 
@@ -42,25 +39,13 @@ getD-powers f values i =
     let none : 0 ≡ Q 0 f = omega arith in
     ap (getD (powersBy f values) i) none ∙ List·getD-map (λ p. Q p f) values i 0
 
-module _ {index : ℕ} {part : List ℕ} (t : TableInside index part) where
-  pub length-powers : (f : ℕ) → length (powersBy f (tableAt index (wordsOf part))) ≡ 96
-  length-powers f =
-      let inside = t .inside in
-      length-map (tableAt index (wordsOf part)) (λ p. Q p f) ∙ length-table index (wordsOf part) (rw length-words (omega arith))
+module _ {index : ℕ} {values : List ℕ} (t : TableInside index values) where
+  pub length-powers : (f : ℕ) → length (powersBy f (tableAt index values)) ≡ 96
+  length-powers f = length-map (tableAt index values) (λ p. Q p f) ∙ length-table index values (t .inside)
 
-  -- the value of position i
-  module _ (i : ℕ) {at : ℕ} (h : i < 96) (e : at ≡ index * 192 + i * 2) where
-    word : getD (wordsOf part) (index * 96 + i) 0 ≡ wordAt part at
-    word =
-        let inside = t .inside in
-        let place : 0 + (index * 96 + i) * 2 ≡ at = omega arith in
-        getD-words part _ 0 (index * 96 + i) 0 (omega arith) ∙ ap (wordAt part) place
-
-    pub word-small : wordAt part at ≤ 20_000
-    word-small = omega (arith, word, t .small (index * 96 + i))
-
-    pub power-at : (f : ℕ) → getD (powersBy f (tableAt index (wordsOf part))) i 0 ≡ Q (wordAt part at) f
-    power-at f = rw (getD-powers, getD-take 96 (drop (index * 96) (wordsOf part)) i 0 h, getD-drop, word)
+  -- the power of position i
+  pub power-at : (i : ℕ) {at : ℕ} → i < 96 → at ≡ index * 96 + i → (f : ℕ) → getD (powersBy f (tableAt index values)) i 0 ≡ Q (getD values at 0) f
+  power-at i h e f = rw (getD-powers, getD-take 96 (drop (index * 96) values) i 0 h, getD-drop, e)
 
 -- the powers stored so far are those wanted: one more, and all
 pub one-more : (i : ℕ) (powers want : List ℕ) {q : ℕ} → i < length powers → i < length want → getD want i 0 ≡ q → take i powers ≡ take i want →

@@ -7,7 +7,6 @@ use Rattle.calendar.specs.declared.dates.Date.{Date}
 use Rattle.calendar.specs.declared.days.Season.{Season}
 use Rattle.calendar.specs.declared.days.DayType.{DayType}
 use Rattle.calendar.specs.Days.{season, dayType}
-use Rattle.profile.specs.Inside.{wordsOf}
 
 -- "winter, summer, transition"
 abbrev pub seasonPlace : Season → ℕ
@@ -33,7 +32,7 @@ tableAt index values = take 96 (drop (index * 96) values)
 unfoldable pub dayValues : List ℕ → List ℕ → Date → List ℕ
 dayValues values holidays d = tableAt (tableIndex (season d) (dayType d holidays)) values
 
--- what is asked of the bytes of a group's values: the day table lies inside, and no value is above 20,000
-pub record TableInside (index : ℕ) (part : List ℕ) : Type 0 where
-  pub inside : (index + 1) * 192 ≤ length part
-  pub small : (i : ℕ) → getD (wordsOf part) i 0 ≤ 20_000
+-- what is asked of a group's values: the day table lies inside, and no value is above 20,000
+pub record TableInside (index : ℕ) (values : List ℕ) : Type 0 where
+  pub inside : (index + 1) * 96 ≤ length values
+  pub small : (i : ℕ) → getD values i 0 ≤ 20_000

@@ -3,7 +3,6 @@ use calendar::days::DayType;
 use calendar::days::Season;
 ghost use mathlib.Core.Path.{_≡_};
 ghost use Prim.Native.Nat.{_≤_, _<_};
-ghost use Rattle.profile.specs.Inside.{wordsOf};
 ghost use Rattle.day_powers.specs.DayTable.{seasonPlace, dayTypePlace, tableIndex, tableAt, TableInside};
 ghost use Rattle.day_powers.specs.DayQuarters.{powersBy};
 
@@ -36,19 +35,19 @@ pub fn table_index(season: Season, day_type: DayType) -> usize
     season_place(season) * 3 + day_type_place(day_type)
 }
 
-// The powers of a day table's 96 values, for one factor. `part` has the bytes of the group's values.
-pub fn powers_of(part: &[u8], table: usize, f: u32) -> [u32; 96]
-    requires { ⌜ TableInside table (now part) ⌝ }
+// The powers of a day table's 96 values, for one factor. `values` are a group's.
+pub fn powers_of(values: &[u16], table: usize, f: u32) -> [u32; 96]
+    requires { ⌜ TableInside table (now values) ⌝ }
     requires { ⌜ f ≤ 20_000 ⌝ }
-    ensures { λ r. ⌜ r ≡ powersBy f (tableAt table (wordsOf (now (part .entry)))) ⌝ }
+    ensures { λ r. ⌜ r ≡ powersBy f (tableAt table (now (values .entry))) ⌝ }
 {
     let mut powers = [0; 96];
     let mut i: usize = 0;
-    let mut at = table * 192;
+    let mut at = table * 96;
     while i < 96 {
-        powers[i] = dynamisation::power(profile::file::word_at(part, at), f);
+        powers[i] = dynamisation::power(values[at] as u32, f);
         i += 1;
-        at += 2;
+        at += 1;
     }
     powers
 }

@@ -37,10 +37,14 @@ pub fn factor(group: u8, t: u32) -> u32
     ((x + 50_000_000) / 100_000_000) as u32
 }
 
-// The power Q in tenths of a watt, from a profile's value P and a factor F.
+// The power Q in tenths of a watt, from a profile's value P and a factor F. A factor of 1 leaves the value as it is, which spares
+// the groups without dynamisation a division for each quarter hour.
 pub fn power(p: u32, f: u32) -> u32
     requires { ⌜ (p ≤ 20_000) × (f ≤ 20_000) ⌝ }
     ensures { λ r. ⌜ r ≡ Q p f ⌝ }
 {
+    if f == 10_000 {
+        return p;
+    }
     (p * f + 5_000) / 10_000
 }

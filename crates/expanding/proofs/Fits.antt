@@ -1,15 +1,12 @@
 -- "A figure fits 32 bits, a total 64.": no power is above 40,000, so no figure is above the yearly use by more than the carry.
 -- Assumes nothing.
-use mathlib.Core.Path.{_≡_, refl, ap}
+use mathlib.Core.Path.{_≡_, refl}
 use mathlib.Core.List.{List, [], _∷_}
 use Prim.Native.Nat.{ℕ, _+_, _*_, _/_, _%_, _^_, _≤_, _<_}
 use native.Mathlib.Nat.{mul-le-mul}
 use native.Mathlib.Omega.{arith}
-use Rattle.refusal.specs.declared.Verdict.the-variants.{Pass}
 use Rattle.calendar.specs.Dates.{dateOf}
-use Rattle.profile.specs.Calls.{located}
 use Rattle.profile.proofs.Finding.{checked}
-use Rattle.profile.proofs.Tables.{located-part}
 use Rattle.period.specs.CalendarDay.{calendarDay}
 use Rattle.carry.specs.Carry.{figures, sum}
 use Rattle.carry.specs.Energy.{Each, powers}
@@ -17,7 +14,7 @@ use Rattle.series.specs.Loop.{InRange}
 use Rattle.series.proofs.DayByDay.{Small, all-small, whole-fits}
 use Rattle.expanding.specs.Expanding.{Request, daysIn, quarters, series, requestCheck, FiguresFit}
 use Rattle.expanding.proofs.Accepted.{Sound, sound}
-use Rattle.expanding.proofs.Given.{group-part, real-days, same-quarters}
+use Rattle.expanding.proofs.Given.{table-values, real-days}
 
 -- small powers make small figures
 figures-small : (yearly : ℕ) (ps : List ℕ) (carry : ℕ) → yearly ≤ 10 ^ 9 → carry < 40_000 → Small ps → Each (λ figure. figure < 2 ^ 32) (figures yearly ps carry)
@@ -32,11 +29,9 @@ unfolding FiguresFit series
 figures-fit q h =
     let s = sound q h in
     let found = checked (q .file) (q .group) (s .file) in
-    let part = located-part (q .file) (q .group) (found .found) (found .passed) (found .at) in
-    let values = group-part (q .file) (q .group) (located (q .file) (q .group)) (found .passed) part in
+    let values = table-values (q .file) (q .group) (found .passed) (found .at) in
     let day = calendarDay (dateOf (q .first)) in
-    let real = real-days q day (daysIn q) s refl refl in
-    let same = ap powers (same-quarters q (located (q .file) (q .group)) day (daysIn q) part refl refl) in (
-      figures-small (q .yearly) (powers (quarters q)) (q .carry) (s .yearly) (s .carry) (rw same at (all-small values (q .group) (q .holidays) (daysIn q) (dateOf (q .first)) (real .all))),
-      rw same at (whole-fits values (q .group) (q .holidays) {first = day} (record { yearlySmall = s .yearly; carrySmall = s .carry }) real),
+    let real = real-days q day (daysIn q) s refl refl in (
+      figures-small (q .yearly) (powers (quarters q)) (q .carry) (s .yearly) (s .carry) (all-small values (q .group) (q .holidays) (daysIn q) (dateOf (q .first)) (real .all)),
+      whole-fits values (q .group) (q .holidays) {first = day} (record { yearlySmall = s .yearly; carrySmall = s .carry }) real,
     )

@@ -1,5 +1,5 @@
 -- What the functions below expanding require, from what the questions tell. Assumes nothing.
-use mathlib.Core.Path.{_≡_, refl}
+use mathlib.Core.Path.{_≡_, refl, _∙_}
 use mathlib.Core.Bool.{Bool, true, false}
 use mathlib.Core.List.{List}
 use Prim.Native.Nat.{ℕ, _≤_}
@@ -8,34 +8,43 @@ use borrow.Author.Tests.{ltb-true, ltb-false}
 use lib.Dec.{ltb}
 use lib.ListN.{getD, List·getD-eq-default}
 use Rattle.refusal.specs.declared.Verdict.the-variants.{Pass}
-use Rattle.calendar.specs.Dates.{dateOf}
-use Rattle.profile.specs.File.{layoutOf, fileCheck, tableOf}
-use Rattle.profile.specs.Inside.{wordsOf}
+use Rattle.calendar.specs.declared.dates.Date.{Date}
+use Rattle.calendar.specs.Dates.{dateOf, isDate, dayNumber}
+use Rattle.profile.specs.declared.file.Found.the-variants.{At}
+use Rattle.profile.specs.File.{layoutOf, fileCheck, groupIn, tableOf}
+use Rattle.profile.specs.Inside.{valueBytes, wordsOf}
 use Rattle.profile.proofs.Accepted.{accepted}
-use Rattle.profile.proofs.Tables.{PartOf, part-length, part-words, table-bound, table-length}
+use Rattle.profile.proofs.Tables.{part-of, part-words, table-bound, table-length}
 use Rattle.period.specs.declared.CalendarDay.{CalendarDay}
 use Rattle.period.specs.CalendarDay.{calendarDay}
-use Rattle.period.proofs.Days.{period-days}
+use Rattle.period.proofs.Days.{Period, period-days}
 use Rattle.day_powers.specs.DayQuarters.{dayQuarters}
 use Rattle.series.specs.Series.{quartersOfDays}
-use Rattle.series.specs.Loop.{GroupPart, RealDays}
+use Rattle.series.specs.Loop.{GroupValues, RealDays}
 use Rattle.expanding.specs.Expanding.{Request, daysIn, quarters}
 use Rattle.expanding.proofs.Accepted.{Sound}
 
--- the group's part of an accepted file has its 864 values
-module _ (file : List ℕ) (group : ℕ) (part : List ℕ) (p : fileCheck file ≡ Pass) (is : PartOf file group part) where
+-- the group's values in an accepted file: 864, none above 20,000, and those at the place where the group was found
+module _ (file : List ℕ) (group : ℕ) {found : ℕ} (p : fileCheck file ≡ Pass) (at : groupIn file group ≡ At found) where
   value-small : (i : ℕ) (b : Bool) → ltb i (layoutOf file .values) ≡ b → getD (tableOf file group) i 0 ≤ 20_000
-  value-small i true h = table-bound file group (is .found) i 0 (accepted file p) (is .at) (ltb-true _ _ h)
+  value-small i true h = table-bound file group found i 0 (accepted file p) at (ltb-true _ _ h)
   value-small i false h =
       omega (arith, List·getD-eq-default (tableOf file group) 0 {n = i} (omega (arith, table-length file group, ltb-false i (layoutOf file .values) h)))
 
-  pub group-part : GroupPart part
+  pub table-values : GroupValues (tableOf file group)
   unfolding layoutOf
-  group-part =
-      record {
-        whole = part-length file group part is;
-        small = λ i. rw (part-words file group part is) (value-small i (ltb i (layoutOf file .values)) refl);
-      }
+  table-values = record { whole = table-length file group; small = λ i. value-small i (ltb i (layoutOf file .values)) refl }
+
+  module _ {values : List ℕ} (are : values ≡ wordsOf (valueBytes file found)) where
+    pub table-is : values ≡ tableOf file group
+    table-is = are ∙ part-words file group _ (part-of file group found p at refl)
+
+    pub group-values : GroupValues values
+    group-values = rw table-is table-values
+
+-- both dates are real and in order
+pub dates : {first last : ℕ} {a b : Date} → a ≡ dateOf first → b ≡ dateOf last → Period first last → ((isDate a ≡ true) × (isDate b ≡ true)) × (dayNumber a ≤ dayNumber b)
+dates h k p = rw (h, k) ((p .dates-first, p .dates-last), p .ordered)
 
 -- the days of an accepted request are dates
 pub real-days : (q : Request) (day : CalendarDay) (days : ℕ) → Sound q → day ≡ calendarDay (dateOf (q .first)) → days ≡ daysIn q → RealDays day days
@@ -44,6 +53,6 @@ real-days q day days s e f =
     let dates = period-days (dateOf (q .first)) (dateOf (q .last)) (p .dates-first) (p .dates-last) (p .ordered) .dates in
     record { known = rw e; few = rw f (p .short); all = rw (e, f) dates }
 
--- the quarter hours of the part's values are the request's
-pub same-quarters : (q : Request) (part : List ℕ) (day : CalendarDay) (days : ℕ) → PartOf (q .file) (q .group) part → day ≡ calendarDay (dateOf (q .first)) → days ≡ daysIn q → quartersOfDays (dayQuarters (wordsOf part) (q .group) (q .holidays)) days (day .date) ≡ quarters q
-same-quarters q part day days is e f = rw (part-words (q .file) (q .group) part is, e, f)
+-- the quarter hours of the group's values are the request's
+pub same-quarters : (q : Request) {values : List ℕ} {day : CalendarDay} {days : ℕ} → values ≡ tableOf (q .file) (q .group) → day ≡ calendarDay (dateOf (q .first)) → days ≡ daysIn q → quartersOfDays (dayQuarters values (q .group) (q .holidays)) days (day .date) ≡ quarters q
+same-quarters q v e f = rw (v, e, f)

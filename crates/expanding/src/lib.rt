@@ -1,5 +1,5 @@
 // Expanding (document 01, "Series and carry" and questions 1 to 12): a period's series in the lent output.
-// The file is checked once, nothing is allocated, and nothing is copied but one day's powers.
+// The file is checked once, nothing is allocated, and nothing is copied but the group's values and one day's powers.
 use profile::file::Found;
 use refusal::Refusal;
 use refusal::Verdict;
@@ -117,8 +117,9 @@ pub fn expand(
     if out.len() < needed {
         return Expansion::Refused(Verdict::Refused(Refusal::ShortOutput(needed)));
     }
-    let part = profile::group::values_of(file, at);
-    Expansion::Expanded(series::expand_days(part, group, day, days, holidays, yearly, carry, out))
+    let values = profile::reading::values_at(file, at);
+    let made = series::expand_days(&values, group, day, days, holidays, yearly, carry, out);
+    Expansion::Expanded(made)
 }
 
 fn report_totals(t: Totals) -> ExpansionReport

@@ -13,13 +13,12 @@ use Rattle.carry.proofs.Joining.{length-figures}
 use Rattle.period.specs.declared.CalendarDay.{CalendarDay}
 use Rattle.period.specs.Period.{daysLater, AllDates}
 use Rattle.period.proofs.Days.{values-small}
-use Rattle.profile.specs.Inside.{wordsOf}
 use Rattle.day_powers.specs.DayQuarters.{dayQuarters}
 use Rattle.series.specs.declared.Totals.{Totals}
 use Rattle.series.specs.Series.{quartersOfDays}
-use Rattle.series.specs.Loop.{GroupPart, RealDay, RealDays, Filled}
+use Rattle.series.specs.Loop.{GroupValues, RealDay, RealDays, Filled}
 use Rattle.series.proofs.SeriesLaws.{length-quarters}
-use Rattle.series.proofs.OneDay.{dayPowers, group-values}
+use Rattle.series.proofs.OneDay.{dayPowers}
 use Rattle.series.proofs.DayByDay.{powersFrom, length-powers}
 use Rattle.text.specs.Text.{Put}
 use Rattle.listing.specs.declared.Lines.{Lines}
@@ -36,38 +35,38 @@ only d h (suc k) l = absurd (omega arith)
 pub one-day : {day : CalendarDay} → RealDay day → RealDays day 1
 one-day {day} real = record { known = real .known; few = omega arith; all = only (day .date) (real .real) }
 
-powers-one : (part : List ℕ) (group : ℕ) (holidays : List ℕ) (d : Date) → powersFrom part group holidays 1 d ≡ dayPowers part group holidays d
+powers-one : (values : List ℕ) (group : ℕ) (holidays : List ℕ) (d : Date) → powersFrom values group holidays 1 d ≡ dayPowers values group holidays d
 unfolding quartersOfDays
-powers-one part group holidays d = ap powers (append-nil (dayQuarters (wordsOf part) group holidays d))
+powers-one values group holidays d = ap powers (append-nil (dayQuarters values group holidays d))
 
-module _ {part : List ℕ} (bytes : GroupPart part) (group : ℕ) (holidays : List ℕ) (d : Date) where
-  pub one-room : length (quartersOfDays (dayQuarters (wordsOf part) group holidays) 1 d) ≤ 100
-  one-room = omega (arith, length-quarters (wordsOf part) group holidays 1 d (group-values bytes), values-small 1 d)
+module _ {values : List ℕ} (sound : GroupValues values) (group : ℕ) (holidays : List ℕ) (d : Date) where
+  pub one-room : length (quartersOfDays (dayQuarters values group holidays) 1 d) ≤ 100
+  one-room = omega (arith, length-quarters values group holidays 1 d (sound .whole), values-small 1 d)
 
-  module _ {yearly carry : ℕ} {out after : List ℕ} {t : Totals} (did : Filled yearly (powersFrom part group holidays 1 d) carry out t after) where
+  module _ {yearly carry : ℕ} {out after : List ℕ} {t : Totals} (did : Filled yearly (powersFrom values group holidays 1 d) carry out t after) where
     own-totals : t ≡ record {
-      count = length (dayPowers part group holidays d);
-      total = sum (dayFigures (wordsOf part) group holidays yearly d carry);
-      carry = lastCarry yearly (dayPowers part group holidays d) carry;
+      count = length (dayPowers values group holidays d);
+      total = sum (dayFigures values group holidays yearly d carry);
+      carry = lastCarry yearly (dayPowers values group holidays d) carry;
     }
-    own-totals = rw (powers-one part group holidays d) at (did .totals)
+    own-totals = rw (powers-one values group holidays d) at (did .totals)
 
-    own-count : t .count ≡ length (dayPowers part group holidays d)
+    own-count : t .count ≡ length (dayPowers values group holidays d)
     own-count = ap (λ (x : Totals). x .count) own-totals
 
-    pub own-total : t .total ≡ sum (dayFigures (wordsOf part) group holidays yearly d carry)
+    pub own-total : t .total ≡ sum (dayFigures values group holidays yearly d carry)
     own-total = ap (λ (x : Totals). x .total) own-totals
 
-    own-carry : t .carry ≡ lastCarry yearly (dayPowers part group holidays d) carry
+    own-carry : t .carry ≡ lastCarry yearly (dayPowers values group holidays d) carry
     own-carry = ap (λ (x : Totals). x .carry) own-totals
 
     pub few : t .count ≤ 100
-    few = omega (arith, ap (λ (x : Totals). x .count) (did .totals), length-powers part group holidays 1 d, one-room)
+    few = omega (arith, ap (λ (x : Totals). x .count) (did .totals), length-powers values group holidays 1 d, one-room)
 
   pub day-listed : {yearly : ℕ} {before : Lines} {out filled page after : List ℕ} {t : Totals} {r : ℕ} →
-      Filled yearly (powersFrom part group holidays 1 d) (before .totals .carry) out t filled →
+      Filled yearly (powersFrom values group holidays 1 d) (before .totals .carry) out t filled →
       Put (dayLine holidays (rowOf d (t .count) (t .total))) page (before .at) r after →
-      DayListed (wordsOf part) group holidays yearly d before page
+      DayListed values group holidays yearly d before page
       (record { at = r; totals = record { count = before .totals .count + t .count; total = before .totals .total + t .total; carry = t .carry } }) after
   day-listed {yearly} {before} {t = t} did put =
       let count = own-count did in
@@ -75,7 +74,7 @@ module _ {part : List ℕ} (bytes : GroupPart part) (group : ℕ) (holidays : Li
       let small = few did in
       let short = day-line-short holidays d (t .count) (t .total) (omega arith) in
       record {
-        line = rw (length-figures yearly (dayPowers part group holidays d) (before .totals .carry), ← count, ← total) put;
+        line = rw (length-figures yearly (dayPowers values group holidays d) (before .totals .carry), ← count, ← total) put;
         short = omega (arith, put .behind);
         count = omega arith;
         total = omega arith;

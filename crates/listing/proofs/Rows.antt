@@ -1,17 +1,23 @@
--- The rows' counts and Wh add up to the period's. By induction over the days. Assumes nothing.
+-- The rows' counts and Wh add up to the period's, and no line is longer than 39 characters. By induction over the days.
+-- Assumes nothing.
 use mathlib.Core.Path.{_≡_, refl}
-use mathlib.Core.List.{_++_, map-append}
-use Prim.Native.Nat.{zero, suc}
+use mathlib.Core.List.{List, _++_, map-append}
+use Prim.Native.Nat.{ℕ, zero, suc, _*_, _≤_}
 use native.Mathlib.Omega.{arith}
 use lib.ListN.{length, length-append, length-map}
+use Rattle.calendar.specs.declared.dates.Date.{Date}
+use Rattle.calendar.specs.declared.days.Clock.{Clock}
+use Rattle.calendar.specs.declared.days.Clock.the-variants.{Unchanged, Forward, Back}
 use Rattle.calendar.specs.Dates.{nextDay}
+use Rattle.calendar.specs.Days.{clock, valuesUnder}
 use Rattle.carry.specs.Carry.{figures, lastCarry, sum}
 use Rattle.carry.specs.Energy.{powers}
 use Rattle.carry.proofs.Joining.{figures-append, sum-append, length-figures}
 use Rattle.day_powers.specs.DayQuarters.{dayQuarters}
+use Rattle.day_powers.proofs.Quarters.{length-day-quarters}
 use Rattle.series.specs.Series.{quartersOfDays}
-use Rattle.listing.specs.Listing.{rows}
-use Rattle.listing.specs.Pages.{RowsAddUp}
+use Rattle.listing.specs.Listing.{rowOf, rows, dayFigures, dayLine, dayLines, RowsAddUp}
+use Rattle.listing.proofs.Fields.{day-line-short}
 
 pub rows-add-up : RowsAddUp
 unfolding RowsAddUp rows quartersOfDays figures sum
@@ -27,4 +33,32 @@ rows-add-up values group holidays yearly (suc n) d carry =
     rw (split, figures-append yearly (powers day) (powers later) carry) in (
       omega (arith, length-append day later, length-figures yearly (powers day) carry),
       omega (arith, sum-append (figures yearly (powers day) carry) (figures yearly (powers later) next)),
+    )
+
+-- the figures of one day are at most 100
+few : (values : List ℕ) (group : ℕ) (holidays : List ℕ) (yearly : ℕ) (d : Date) (carry : ℕ) → length values ≡ 864 →
+    length (dayFigures values group holidays yearly d carry) ≤ 100
+few values group holidays yearly d carry h =
+    let day = dayQuarters values group holidays d in
+    let limit = values-under-small (clock d) in
+    omega (arith, length-figures yearly (powers day) carry, length-map day (λ q. q .power), length-day-quarters values group holidays d h)
+  where
+    values-under-small : (c : Clock) → valuesUnder c ≤ 100
+    values-under-small Unchanged = omega arith
+    values-under-small Forward = omega arith
+    values-under-small Back = omega arith
+
+pub lines-short : (values : List ℕ) (group : ℕ) (holidays : List ℕ) (yearly n : ℕ) (d : Date) (carry : ℕ) → length values ≡ 864 →
+    length (dayLines holidays (rows values group holidays yearly n d carry)) ≤ 39 * n
+unfolding rows dayLines
+lines-short values group holidays yearly zero d carry h = omega arith
+lines-short values group holidays yearly (suc n) d carry h =
+    let figs = dayFigures values group holidays yearly d carry in
+    let next = lastCarry yearly (powers (dayQuarters values group holidays d)) carry in
+    let line = day-line-short holidays d (length figs) (sum figs) (omega (arith, few values group holidays yearly d carry h)) in
+    omega (
+      arith,
+      line,
+      lines-short values group holidays yearly n (nextDay d) next h,
+      length-append (dayLine holidays (rowOf d (length figs) (sum figs))) (dayLines holidays (rows values group holidays yearly n (nextDay d) next)),
     )

@@ -1,5 +1,6 @@
 -- Document 01, "The program": the lines that it prints.
-use mathlib.Core.List.{List, [], _∷_, _++_}
+use mathlib.Core.Path.{_≡_}
+use mathlib.Core.List.{List, [], _∷_, _++_, map}
 use Prim.Native.Nat.{ℕ, zero, suc, _+_}
 use lib.ListN.{length}
 use Rattle.refusal.specs.declared.Verdict.{Verdict}
@@ -12,6 +13,7 @@ use Rattle.enquiry.specs.Enquiry.{dayTypeFigure}
 use Rattle.carry.specs.Carry.{figures, lastCarry, sum}
 use Rattle.carry.specs.Energy.{powers}
 use Rattle.series.specs.declared.Totals.{Totals}
+use Rattle.series.specs.Series.{quartersOfDays}
 use Rattle.day_powers.specs.DayQuarters.{dayQuarters}
 use Rattle.text.specs.Text.{space, lineFeed, digit, decimal, dateText}
 
@@ -74,3 +76,10 @@ lastLine days t =
 -- "A refusal prints "refused", number, place."
 unfoldable pub refusedLine : Verdict → List ℕ
 refusedLine v = refusedWord ++ (field (number v) ++ (field (place v) ++ (lineFeed ∷ [])))
+
+-- the theorem: the day lines' counts and Wh add up to the period's, for any group, days and carry. Proved in proofs/Rows.antt.
+unfoldable pub RowsAddUp : Type 0
+RowsAddUp =
+    (values : List ℕ) (group : ℕ) (holidays : List ℕ) (yearly n : ℕ) (d : Date) (carry : ℕ) →
+    (sum (map (λ row. row .count) (rows values group holidays yearly n d carry)) ≡ length (quartersOfDays (dayQuarters values group holidays) n d))
+    × (sum (map (λ row. row .wattHours) (rows values group holidays yearly n d carry)) ≡ sum (figures yearly (powers (quartersOfDays (dayQuarters values group holidays) n d)) carry))

@@ -1,6 +1,6 @@
--- What the functions of this crate ask and promise of a page, and theorems about the rows.
+-- What the functions of this crate ask and promise of a page. No definition of document 01.
 use mathlib.Core.Path.{_≡_}
-use mathlib.Core.List.{List, map}
+use mathlib.Core.List.{List}
 use Prim.Native.Nat.{ℕ, _+_, _*_, _^_, _≤_, _<_}
 use lib.ListN.{length}
 use Rattle.calendar.specs.declared.dates.Date.{Date}
@@ -37,10 +37,3 @@ pub record Listed (values : List ℕ) (group : ℕ) (holidays : List ℕ) (yearl
     carry = lastCarry yearly (powers (quartersOfDays (dayQuarters values group holidays) days d)) 0;
   }
   pub short : r .at ≤ 39 * days
-
--- "The day lines' counts and Wh add up to the last line's": for any group, days and carry. Proved in proofs/Rows.antt.
-unfoldable pub RowsAddUp : Type 0
-RowsAddUp =
-    (values : List ℕ) (group : ℕ) (holidays : List ℕ) (yearly n : ℕ) (d : Date) (carry : ℕ) →
-    (sum (map (λ row. row .count) (rows values group holidays yearly n d carry)) ≡ length (quartersOfDays (dayQuarters values group holidays) n d))
-    × (sum (map (λ row. row .wattHours) (rows values group holidays yearly n d carry)) ≡ sum (figures yearly (powers (quartersOfDays (dayQuarters values group holidays) n d)) carry))

@@ -6,8 +6,9 @@ use series::Totals;
 ghost use mathlib.Core.Path.{_≡_};
 ghost use Prim.Native.Nat.{_+_, _≤_, _<_};
 ghost use lib.ListN.{length};
-ghost use Rattle.profile.specs.Inside.{wordsOf};
-ghost use Rattle.series.specs.Loop.{GroupPart, InRange, RealDay, RealDays};
+ghost use Rattle.refusal.specs.declared.Verdict.the-variants.{Pass};
+ghost use Rattle.calendar.specs.Holidays.{holidaysQuestion};
+ghost use Rattle.series.specs.Loop.{GroupValues, InRange, RealDay, RealDays};
 ghost use Rattle.text.specs.Text.{Put};
 ghost use Rattle.listing.specs.Listing.{rowOf, seasonLetter, dayTypeText, field, dayLine, lastLine, refusedLine};
 ghost use Rattle.listing.specs.Pages.{DayRoom, DayListed, Listed};
@@ -73,7 +74,7 @@ fn put_day_line(
 
 // Expands one day and puts its line behind those before.
 fn list_day(
-    part: &[u8],
+    values: &[u16],
     group: u8,
     day: CalendarDay,
     holidays: &[u32],
@@ -81,15 +82,16 @@ fn list_day(
     before: Lines,
     page: &mut [u8],
 ) -> Lines
-    requires { ⌜ GroupPart (now part) ⌝ }
+    requires { ⌜ GroupValues (now values) ⌝ }
     requires { ⌜ RealDay day ⌝ }
+    requires { ⌜ holidaysQuestion (now holidays) ≡ Pass ⌝ }
     requires { ⌜ InRange yearly (before .totals .carry) ⌝ }
-    requires { ⌜ DayRoom (wordsOf (now part)) group (now holidays) yearly (day .date) before (now page) ⌝ }
-    ensures { λ r. ⌜ DayListed (wordsOf (now (part .entry))) group (now (holidays .entry)) yearly (day .date) before (now (page .entry)) r (now (page .exit)) ⌝ }
+    requires { ⌜ DayRoom (now values) group (now holidays) yearly (day .date) before (now page) ⌝ }
+    ensures { λ r. ⌜ DayListed (now (values .entry)) group (now (holidays .entry)) yearly (day .date) before (now (page .entry)) r (now (page .exit)) ⌝ }
 {
     let mut figures = [0u32; 100];
     let t = series::expand_days(
-        part,
+        values,
         group,
         day,
         1,
@@ -113,7 +115,7 @@ fn list_day(
 
 // Expands a period day by day from carry 0 and puts a line for each day at the start of the page.
 pub fn list_days(
-    part: &[u8],
+    values: &[u16],
     group: u8,
     first: CalendarDay,
     days: u32,
@@ -121,11 +123,12 @@ pub fn list_days(
     yearly: u32,
     page: &mut [u8],
 ) -> Lines
-    requires { ⌜ GroupPart (now part) ⌝ }
+    requires { ⌜ GroupValues (now values) ⌝ }
     requires { ⌜ RealDays first days ⌝ }
+    requires { ⌜ holidaysQuestion (now holidays) ≡ Pass ⌝ }
     requires { ⌜ InRange yearly 0 ⌝ }
     requires { ⌜ 57_000 ≤ length (now page) ⌝ }
-    ensures { λ r. ⌜ Listed (wordsOf (now (part .entry))) group (now (holidays .entry)) yearly days (first .date) (now (page .entry)) r (now (page .exit)) ⌝ }
+    ensures { λ r. ⌜ Listed (now (values .entry)) group (now (holidays .entry)) yearly days (first .date) (now (page .entry)) r (now (page .exit)) ⌝ }
 {
     let mut day = first;
     let mut left = days;
@@ -138,7 +141,7 @@ pub fn list_days(
         },
     };
     while 0 < left {
-        so_far = list_day(part, group, day, holidays, yearly, so_far, page);
+        so_far = list_day(values, group, day, holidays, yearly, so_far, page);
         day = period::day_after(day);
         left -= 1;
     }

@@ -3,14 +3,14 @@
 -- Assumes nothing.
 use mathlib.Core.Path.{refl, _∙_}
 use Rattle.calendar.specs.Dates.{leapDays, monthLength, daysOfMonths, dayOfYear, daysOfYears, dayNumber, weekdayOf, nextDay}
-use Rattle.calendar.specs.Days.{season, listed, dayType, lastSunday, clock, positions, valuesOfDays}
+use Rattle.calendar.specs.Days.{season, listed, dayTypeWhen, lastSunday, clock, positions, valuesOfDays}
 use Rattle.dynamisation.specs.Dynamisation.{householdX, X, F, Q}
 use Rattle.carry.specs.Carry.{figures, lastCarry}
 use Rattle.series.proofs.SeriesLaws.{length-quarters}
 use Rattle.marked_figures.specs.MarkedFigures.{MarkedFigures}
 
 pub marked-figures : MarkedFigures
-unfolding householdX X F Q leapDays monthLength daysOfMonths dayOfYear daysOfYears dayNumber weekdayOf nextDay season listed dayType lastSunday clock positions valuesOfDays figures lastCarry
+unfolding householdX X F Q leapDays monthLength daysOfMonths dayOfYear daysOfYears dayNumber weekdayOf nextDay season listed dayTypeWhen lastSunday clock positions valuesOfDays figures lastCarry
 marked-figures =
     record {
       t-1 = record { exact = refl; rounded = refl };

@@ -1,2 +1,3 @@
 pub mod Period
 pub mod CalendarDay
+pub mod HolidayPlace

@@ -1,5 +1,7 @@
 // The days of a period (document 01, "A period has 1 to 1,461 days"): questions 7 and 8, how many days and values a period has,
 // and its days one after the other.
+pub mod holidays;
+
 use calendar::dates::Date;
 use refusal::Refusal;
 use refusal::Verdict;

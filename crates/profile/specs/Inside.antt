@@ -23,9 +23,13 @@ pub record CodeAt (layout : Layout) (file : List ℕ) (at : ℕ) : Type 0 where
   pub inside : at < length file
   pub earlier : (at ≡ headerLength → ⊥) → profileLength layout ≤ at
 
--- the value bytes of the profile whose code stands at `at`, as that part of the file's own memory
+-- the value bytes of the profile whose code stands at `at`
+abbrev pub valueBytes : List ℕ → ℕ → List ℕ
+valueBytes file at = take (layoutOf file .values * 2) (drop (at + layoutOf file .before) file)
+
+-- the same as that part of the file's own memory
 pub record ValuesOf (file : RefT (List ℕ)) (at : ℕ) (part : RefT (List ℕ)) : Type 0 where
-  pub bytes : now part ≡ take (layoutOf (now file) .values * 2) (drop (at + layoutOf (now file) .before) (now file))
+  pub bytes : now part ≡ valueBytes (now file) at
   pub start : part .ptr ≡ (file .ptr .0, file .ptr .1 + (at + layoutOf (now file) .before))
 
 -- all the values of a part of a file

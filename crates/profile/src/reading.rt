@@ -4,10 +4,11 @@ use refusal::Refusal;
 use refusal::Verdict;
 ghost use mathlib.Core.Path.{_≡_};
 ghost use mathlib.Core.List.{_++_};
-ghost use Prim.Native.Nat.{_/_, _≤_};
+ghost use Prim.Native.Nat.{_+_, _/_, _≤_};
 ghost use lib.ListN.{length, drop};
 ghost use Rattle.profile.specs.Calls.{readCheck, tableAfter};
-ghost use Rattle.profile.specs.Inside.{wordsOf};
+ghost use Rattle.profile.specs.File.{layoutOf, profileLength};
+ghost use Rattle.profile.specs.Inside.{LaidOut, valueBytes, wordsOf};
 
 // Fills the first entries of `table` with the values of `part` and keeps those beyond.
 fn fill(part: &[u8], table: &mut [u16])
@@ -23,6 +24,17 @@ fn fill(part: &[u8], table: &mut [u16])
         at += 2;
         left -= 1;
     }
+}
+
+// The values of the profile whose code stands at `at`, by value.
+pub fn values_at(file: &[u8], at: usize) -> [u16; 864]
+    requires { ⌜ LaidOut (layoutOf (now file)) (now file) ⌝ }
+    requires { ⌜ at + profileLength (layoutOf (now file)) ≤ length (now file) ⌝ }
+    ensures { λ r. ⌜ r ≡ wordsOf (valueBytes (now (file .entry)) at) ⌝ }
+{
+    let mut values = [0; 864];
+    fill(crate::group::values_of(file, at), &mut values);
+    values
 }
 
 // Fills the first entries of `table` with the group's values and keeps those beyond; a refusal changes nothing.

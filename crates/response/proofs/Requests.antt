@@ -10,8 +10,6 @@ use Rattle.refusal.specs.declared.Verdict.the-variants.{Pass, Refused}
 use Rattle.refusal.proofs.Laws.{IsRefused, passed-not-refused}
 use Rattle.calendar.specs.Dates.{dateOf}
 use Rattle.profile.specs.File.{tableOf}
-use Rattle.profile.specs.Inside.{wordsOf}
-use Rattle.profile.proofs.Tables.{PartOf, part-words}
 use Rattle.period.specs.declared.CalendarDay.{CalendarDay}
 use Rattle.period.specs.CalendarDay.{calendarDay}
 use Rattle.expanding.specs.Expanding.{Request, request, daysIn, series, totals, requestCheck}
@@ -45,13 +43,13 @@ module _ (q : Request) (passed : requestCheck q ≡ Pass) (none : q .carry ≡ 0
   unfolding series
   sums l = rw (series-length q, none) (l .totals)
 
-  pub accepted : {part before middle after : List ℕ} {day : CalendarDay} {days s : ℕ} {r : Lines} → PartOf (q .file) (q .group) part →
+  pub accepted : {values before middle after : List ℕ} {day : CalendarDay} {days s : ℕ} {r : Lines} → values ≡ tableOf (q .file) (q .group) →
       day ≡ calendarDay (dateOf (q .first)) → days ≡ daysIn q →
-      Listed (wordsOf part) (q .group) (q .holidays) (q .yearly) days (day .date) before r middle →
+      Listed values (q .group) (q .holidays) (q .yearly) days (day .date) before r middle →
       Put (lastLine days (r .totals)) middle (r .at) s after → pageLength ≤ length before → Put (linesOf q) before 0 s after
   unfolding linesFor
-  accepted {part} is e f l last room =
-      let lines = rw (part-words (q .file) (q .group) part is, e, f) at l in
+  accepted v e f l last room =
+      let lines = rw (v, e, f) at l in
       let few = sound q passed .period .short in
       rw passed (put-put (lines .lines) (rw (f, sums lines) at last) (omega (arith, last-line-short (daysIn q) (totals q))))
 

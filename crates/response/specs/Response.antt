@@ -1,7 +1,7 @@
 -- Document 01, "The program": what it prints for an input, every byte of it.
 use mathlib.Core.Bool.{cond}
 use mathlib.Core.List.{List, _++_}
-use Prim.Native.Nat.{ℕ}
+use Prim.Native.Nat.{ℕ, _≤_}
 use lib.Dec.{leb}
 use lib.ListN.{length, drop}
 use Rattle.refusal.specs.declared.Verdict.{Verdict}
@@ -32,9 +32,13 @@ linesOf q = linesFor (requestCheck q) q
 unfoldable pub printed : List ℕ → List ℕ
 printed input = linesFor (inputQuestion input then requestCheck (requestIn input)) (requestIn input)
 
--- the room that is enough for every input
+-- the room that is enough for every input: 1,461 days at the largest figures have lines of fewer than 57,100 bytes
 abbrev pub pageLength : ℕ
 pageLength = 65_536
+
+-- the theorem: it is. Proved in proofs/Room.antt.
+unfoldable pub EnoughRoom : Type 0
+EnoughRoom = (input : List ℕ) → length (printed input) ≤ pageLength
 
 -- what the call answers, and the lent page after it: with less room it does nothing
 abbrev pub responseTo : List ℕ → List ℕ → Response

@@ -40,11 +40,11 @@ fn put_answer(
     let Found::At(at) = profile::group::find(file, group) else {
         return 0;
     };
-    let part = profile::group::values_of(file, at);
+    let values = profile::reading::values_at(file, at);
     let from = calendar::dates::date_of(first);
     let days = period::days_of(from, calendar::dates::date_of(last));
     let day = period::calendar_day(from);
-    let lines = listing::list_days(part, group, day, days, holidays, yearly, page);
+    let lines = listing::list_days(&values, group, day, days, holidays, yearly, page);
     listing::put_last_line(days, lines.totals, page, lines.at)
 }
 

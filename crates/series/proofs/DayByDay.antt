@@ -19,16 +19,15 @@ use Rattle.period.proofs.Days.{all-first, all-next, values-small}
 use Rattle.carry.specs.Carry.{figures, lastCarry, sum}
 use Rattle.carry.specs.Energy.{Each, powers}
 use Rattle.carry.proofs.Joining.{figures-append, carry-append, sum-append, length-figures, carry-small, telescope}
-use Rattle.profile.specs.Inside.{wordsOf}
 use Rattle.day_powers.specs.DayQuarters.{dayQuarters}
 use Rattle.day_powers.proofs.EachLaws.{each-append, each-position}
 use Rattle.day_powers.proofs.Quarters.{day-powers-positions}
 use Rattle.series.specs.declared.Totals.{Totals}
 use Rattle.day_figures.proofs.Ranges.{sets-append}
 use Rattle.series.specs.Series.{quartersOfDays}
-use Rattle.series.specs.Loop.{GroupPart, InRange, RealDay, RealDays, Room, Added, Filled}
+use Rattle.series.specs.Loop.{GroupValues, InRange, RealDay, RealDays, Room, Added, Filled}
 use Rattle.series.proofs.SeriesLaws.{quarters-none, quarters-next, length-quarters}
-use Rattle.series.proofs.OneDay.{powersBefore, dayPowers, group-values, day-powers-small}
+use Rattle.series.proofs.OneDay.{powersBefore, dayPowers, day-powers-small}
 
 -- the powers `left` are still to come; the figures of the whole have room, and their total fits
 pub record Left (yearly : ℕ) (whole : List ℕ) (carry : ℕ) (entry : List ℕ) (left : List ℕ) (soFar : Totals) (out : List ℕ) : Type 0 where
@@ -106,71 +105,71 @@ sum-small (x ∷ xs) h = omega (arith, h .0, sum-small xs (h .1))
 
 -- the powers of some days of a group
 abbrev pub powersFrom : List ℕ → ℕ → List ℕ → ℕ → Date → List ℕ
-powersFrom part group holidays n d = powers (quartersOfDays (dayQuarters (wordsOf part) group holidays) n d)
+powersFrom values group holidays n d = powers (quartersOfDays (dayQuarters values group holidays) n d)
 
-module _ (part : List ℕ) (group : ℕ) (holidays : List ℕ) where
-  pub length-powers : (n : ℕ) (d : Date) → length (powersFrom part group holidays n d) ≡ length (quartersOfDays (dayQuarters (wordsOf part) group holidays) n d)
-  length-powers n d = length-map (quartersOfDays (dayQuarters (wordsOf part) group holidays) n d) _
+module _ (values : List ℕ) (group : ℕ) (holidays : List ℕ) where
+  pub length-powers : (n : ℕ) (d : Date) → length (powersFrom values group holidays n d) ≡ length (quartersOfDays (dayQuarters values group holidays) n d)
+  length-powers n d = length-map (quartersOfDays (dayQuarters values group holidays) n d) _
 
-  powers-none : (n : ℕ) (d : Date) → n ≤ 0 → powersFrom part group holidays n d ≡ []
-  powers-none n d h = ap powers (quarters-none (dayQuarters (wordsOf part) group holidays) n d h)
+  powers-none : (n : ℕ) (d : Date) → n ≤ 0 → powersFrom values group holidays n d ≡ []
+  powers-none n d h = ap powers (quarters-none (dayQuarters values group holidays) n d h)
 
   powers-next : (n : ℕ) (d : Date) → 0 < n →
-      powersFrom part group holidays n d ≡ dayPowers part group holidays d ++ powersFrom part group holidays (n - 1) (nextDay d)
+      powersFrom values group holidays n d ≡ dayPowers values group holidays d ++ powersFrom values group holidays (n - 1) (nextDay d)
   powers-next n d h =
-      ap powers (quarters-next (dayQuarters (wordsOf part) group holidays) n d h)
-      ∙ map-append _ (dayQuarters (wordsOf part) group holidays d) (quartersOfDays (dayQuarters (wordsOf part) group holidays) (n - 1) (nextDay d))
+      ap powers (quarters-next (dayQuarters values group holidays) n d h)
+      ∙ map-append _ (dayQuarters values group holidays d) (quartersOfDays (dayQuarters values group holidays) (n - 1) (nextDay d))
 
-module _ {part : List ℕ} (bytes : GroupPart part) (group : ℕ) (holidays : List ℕ) where
-  day-small : (d : Date) → isDate d ≡ true → Small (dayPowers part group holidays d)
+module _ {values : List ℕ} (sound : GroupValues values) (group : ℕ) (holidays : List ℕ) where
+  day-small : (d : Date) → isDate d ≡ true → Small (dayPowers values group holidays d)
   day-small d h =
-      rw (day-powers-positions (wordsOf part) group holidays d)
-      (each-position _ (clock d) _ (small-each (powersBefore part group holidays d) (day-powers-small bytes group holidays d h)))
+      rw (day-powers-positions values group holidays d)
+      (each-position _ (clock d) _ (small-each (powersBefore values group holidays d) (day-powers-small sound group holidays d h)))
 
-  pub all-small : (n : ℕ) (d : Date) → AllDates n d → Small (powersFrom part group holidays n d)
-  all-small zero d h = rw (powers-none part group holidays 0 d (omega arith)) tt
+  pub all-small : (n : ℕ) (d : Date) → AllDates n d → Small (powersFrom values group holidays n d)
+  all-small zero d h = rw (powers-none values group holidays 0 d (omega arith)) tt
   all-small (suc n) d h =
       let one : suc n - 1 ≡ n = omega arith in
-      rw (powers-next part group holidays (suc n) d (omega arith), one)
-      (each-append _ (dayPowers part group holidays d) (powersFrom part group holidays n (nextDay d))
+      rw (powers-next values group holidays (suc n) d (omega arith), one)
+      (each-append _ (dayPowers values group holidays d) (powersFrom values group holidays n (nextDay d))
       (day-small d (all-first (suc n) d h (omega arith))) (all-small n (nextDay d) (rw one at (all-next (suc n) d h))))
 
   pub whole-fits : {yearly carry : ℕ} {first : CalendarDay} {days : ℕ} → InRange yearly carry → RealDays first days →
-      sum (figures yearly (powersFrom part group holidays days (first .date)) carry) < 2 ^ 64
+      sum (figures yearly (powersFrom values group holidays days (first .date)) carry) < 2 ^ 64
   whole-fits {yearly} {carry} {first} {days} range real =
-      let all = powersFrom part group holidays days (first .date) in
+      let all = powersFrom values group holidays days (first .date) in
       let few = real .few in
-      let values = length-quarters (wordsOf part) group holidays days (first .date) (group-values bytes) in
-      let count : length all ≤ 146_100 = omega (arith, length-powers part group holidays days (first .date), values-small days (first .date)) in
+      let many = length-quarters values group holidays days (first .date) (sound .whole) in
+      let count : length all ≤ 146_100 = omega (arith, length-powers values group holidays days (first .date), values-small days (first .date)) in
       let limit : sum all ≤ 40_000 * 146_100 = omega (arith, sum-small all (all-small days (first .date) (real .all))) in
       omega (arith, telescope yearly carry all, mul-le-mul (range .yearlySmall) limit, range .carrySmall)
 
 -- the loop over the days: those left, from `day` on, are real, and their powers are still to come
-pub record DaysLeft (part : List ℕ) (group : ℕ) (holidays : List ℕ) (yearly : ℕ) (whole : List ℕ) (carry : ℕ) (entry : List ℕ) (day : CalendarDay) (left : ℕ) (soFar : Totals) (out : List ℕ) : Type 0 where
+pub record DaysLeft (values : List ℕ) (group : ℕ) (holidays : List ℕ) (yearly : ℕ) (whole : List ℕ) (carry : ℕ) (entry : List ℕ) (day : CalendarDay) (left : ℕ) (soFar : Totals) (out : List ℕ) : Type 0 where
   pub real : RealDays day left
-  pub todo : Left yearly whole carry entry (powersFrom part group holidays left (day .date)) soFar out
+  pub todo : Left yearly whole carry entry (powersFrom values group holidays left (day .date)) soFar out
 
-module _ {part : List ℕ} {group : ℕ} {holidays : List ℕ} {yearly : ℕ} {whole : List ℕ} {carry : ℕ} {entry : List ℕ} {day : CalendarDay} {left : ℕ} {soFar : Totals} {out : List ℕ}
-    (l : DaysLeft part group holidays yearly whole carry entry day left soFar out) where
+module _ {values : List ℕ} {group : ℕ} {holidays : List ℕ} {yearly : ℕ} {whole : List ℕ} {carry : ℕ} {entry : List ℕ} {day : CalendarDay} {left : ℕ} {soFar : Totals} {out : List ℕ}
+    (l : DaysLeft values group holidays yearly whole carry entry day left soFar out) where
   pub all-done : left ≤ 0 → Filled yearly whole carry entry soFar out
-  all-done none = done (rw (powers-none part group holidays left (day .date) none) at (l .todo))
+  all-done none = done (rw (powers-none values group holidays left (day .date) none) at (l .todo))
 
   module _ (some : 0 < left) where
-    split : Left yearly whole carry entry (dayPowers part group holidays (day .date) ++ powersFrom part group holidays (left - 1) (nextDay (day .date))) soFar out
-    split = rw (powers-next part group holidays left (day .date) some) at (l .todo)
+    split : Left yearly whole carry entry (dayPowers values group holidays (day .date) ++ powersFrom values group holidays (left - 1) (nextDay (day .date))) soFar out
+    split = rw (powers-next values group holidays left (day .date) some) at (l .todo)
 
     pub this-day : RealDay day
     this-day = record { real = all-first left (day .date) (l .real .all) some; known = l .real .known }
 
-    pub day-room : Room yearly (dayPowers part group holidays (day .date)) soFar out
-    day-room = next-room _ (powersFrom part group holidays (left - 1) (nextDay (day .date))) split
+    pub day-room : Room yearly (dayPowers values group holidays (day .date)) soFar out
+    day-room = next-room _ (powersFrom values group holidays (left - 1) (nextDay (day .date))) split
 
-    pub day-turn : {r : Totals} {after : List ℕ} {next : CalendarDay} → Added yearly (dayPowers part group holidays (day .date)) soFar out r after →
-        next ≡ calendarDay (nextDay (day .date)) → DaysLeft part group holidays yearly whole carry entry next (left - 1) r after
+    pub day-turn : {r : Totals} {after : List ℕ} {next : CalendarDay} → Added yearly (dayPowers values group holidays (day .date)) soFar out r after →
+        next ≡ calendarDay (nextDay (day .date)) → DaysLeft values group holidays yearly whole carry entry next (left - 1) r after
     day-turn did e =
         let few = l .real .few in
         rw e
         (record {
           real = record { known = refl; few = omega arith; all = all-next left (day .date) (l .real .all) };
-          todo = turn (dayPowers part group holidays (day .date)) _ split did;
+          todo = turn (dayPowers values group holidays (day .date)) _ split did;
         })

@@ -20,8 +20,6 @@ use Rattle.dynamisation.proofs.Whole.{F-small}
 use Rattle.carry.specs.Carry.{figures, sum}
 use Rattle.carry.specs.Energy.{powers}
 use Rattle.carry.proofs.Joining.{length-figures}
-use Rattle.profile.specs.Inside.{wordsOf}
-use Rattle.profile.proofs.Words.{length-words}
 use Rattle.day_powers.specs.DayTable.{tableIndex, tableAt, dayValues}
 use Rattle.day_powers.specs.DayQuarters.{powersBy, dayQuarters}
 use Rattle.day_powers.proofs.Quarters.{powers-small, length-day-quarters, day-powers-positions}
@@ -29,7 +27,7 @@ use Rattle.day_figures.specs.declared.Carried.{Carried}
 use Rattle.day_figures.specs.Day.{SmallPowers, DayCarried}
 use Rattle.day_figures.proofs.Ranges.{stored}
 use Rattle.series.specs.declared.Totals.{Totals}
-use Rattle.series.specs.Loop.{GroupPart, InRange, RealDay, Room, Added}
+use Rattle.series.specs.Loop.{GroupValues, InRange, RealDay, Room, Added}
 
 -- the t of a date
 in-year : (d : Date) → isDate d ≡ true → Day (dayOfYear d)
@@ -57,28 +55,25 @@ module _ {day : CalendarDay} (real : RealDay day) where
 
 -- a day's powers, before the clock change and after it
 abbrev pub powersBefore : List ℕ → ℕ → List ℕ → Date → List ℕ
-powersBefore part group holidays d = powersBy (F group (dayOfYear d)) (dayValues (wordsOf part) holidays d)
+powersBefore values group holidays d = powersBy (F group (dayOfYear d)) (dayValues values holidays d)
 
 abbrev pub dayPowers : List ℕ → ℕ → List ℕ → Date → List ℕ
-dayPowers part group holidays d = powers (dayQuarters (wordsOf part) group holidays d)
+dayPowers values group holidays d = powers (dayQuarters values group holidays d)
 
-pub group-values : {part : List ℕ} → GroupPart part → length (wordsOf part) ≡ 864
-group-values bytes = let whole = bytes .whole in rw length-words (omega arith)
-
-module _ {part : List ℕ} (bytes : GroupPart part) (group : ℕ) (holidays : List ℕ) (d : Date) where
-  pub day-powers-small : isDate d ≡ true → (i : ℕ) → getD (powersBefore part group holidays d) i 0 ≤ 40_000
+module _ {values : List ℕ} (sound : GroupValues values) (group : ℕ) (holidays : List ℕ) (d : Date) where
+  pub day-powers-small : isDate d ≡ true → (i : ℕ) → getD (powersBefore values group holidays d) i 0 ≤ 40_000
   unfolding dayValues
-  day-powers-small h = powers-small (wordsOf part) (tableIndex (season d) (dayType d holidays)) _ (bytes .small) (F-small group (dayOfYear d) (in-year d h))
+  day-powers-small h = powers-small values (tableIndex (season d) (dayType d holidays)) _ (sound .small) (F-small group (dayOfYear d) (in-year d h))
 
   -- with the day's powers and its clock
-  module _ {all : List ℕ} {c : Clock} (e : all ≡ powersBefore part group holidays d) (k : c ≡ clock d) where
-    changed : positions c all ≡ dayPowers part group holidays d
-    changed = rw (e, k) (sym (day-powers-positions (wordsOf part) group holidays d))
+  module _ {all : List ℕ} {c : Clock} (e : all ≡ powersBefore values group holidays d) (k : c ≡ clock d) where
+    changed : positions c all ≡ dayPowers values group holidays d
+    changed = rw (e, k) (sym (day-powers-positions values group holidays d))
 
-    counted : length (dayPowers part group holidays d) ≡ valuesUnder c
-    counted = rw k (length-map (dayQuarters (wordsOf part) group holidays d) _ ∙ length-day-quarters (wordsOf part) group holidays d (group-values bytes))
+    counted : length (dayPowers values group holidays d) ≡ valuesUnder c
+    counted = rw k (length-map (dayQuarters values group holidays d) _ ∙ length-day-quarters values group holidays d (sound .whole))
 
-    module _ {yearly : ℕ} {before : Totals} {out : List ℕ} (room : Room yearly (dayPowers part group holidays d) before out) where
+    module _ {yearly : ℕ} {before : Totals} {out : List ℕ} (room : Room yearly (dayPowers values group holidays d) before out) where
       pub carry-asked : isDate d ≡ true → InRange yearly (before .carry) → SmallPowers all yearly (before .carry) × (before .count + valuesUnder c ≤ length out)
       carry-asked h range =
           let entries = room .entries in
@@ -90,12 +85,12 @@ module _ {part : List ℕ} (bytes : GroupPart part) (group : ℕ) (holidays : Li
       pub total-fits : {total : ℕ} → total ≡ sum (figures yearly (positions c all) (before .carry)) → before .total + total < 2 ^ 64
       total-fits h = let t = room .total in omega (arith, rw changed at h)
 
-      pub added : {r : Carried} {after : List ℕ} {n : ℕ} → DayCarried all c yearly (before .carry) out (before .count) r after → n ≡ valuesUnder c → Added yearly (dayPowers part group holidays d) before out
+      pub added : {r : Carried} {after : List ℕ} {n : ℕ} → DayCarried all c yearly (before .carry) out (before .count) r after → n ≡ valuesUnder c → Added yearly (dayPowers values group holidays d) before out
           (record { count = before .count + n; total = before .total + r .total; carry = r .carry }) after
       added did same =
           let n = counted in
           let entries = room .entries in
-          let figs = figures yearly (dayPowers part group holidays d) (before .carry) in
+          let figs = figures yearly (dayPowers values group holidays d) (before .carry) in
           record {
             stored = (rw changed at (did .figuresStored)) ∙ sym (stored figs out (before .count) _ (length-figures yearly _ (before .carry) ∙ n) (omega arith));
             count = omega arith;

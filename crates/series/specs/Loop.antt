@@ -5,18 +5,26 @@ use mathlib.Core.List.{List, _++_}
 use Prim.Native.Nat.{ℕ, _+_, _^_, _≤_, _<_}
 use lib.ListN.{length, drop, getD}
 use lib.Seq.{sets}
-use Rattle.calendar.specs.Dates.{isDate}
+use Rattle.refusal.specs.declared.Verdict.the-variants.{Pass}
+use Rattle.calendar.specs.declared.dates.Date.{Date}
+use Rattle.calendar.specs.Dates.{isDate, numberOf}
+use Rattle.calendar.specs.Holidays.{holidaysQuestion}
 use Rattle.carry.specs.Carry.{figures, lastCarry, sum}
 use Rattle.period.specs.declared.CalendarDay.{CalendarDay}
 use Rattle.period.specs.Period.{AllDates}
 use Rattle.period.specs.CalendarDay.{calendarDay}
-use Rattle.profile.specs.Inside.{wordsOf}
+use Rattle.period.specs.HolidayPlace.{Reached}
 use Rattle.series.specs.declared.Totals.{Totals}
 
--- a group's value bytes: 864 values of at most 20,000
-pub record GroupPart (part : List ℕ) : Type 0 where
-  pub whole : length part ≡ 1_728
-  pub small : (i : ℕ) → getD (wordsOf part) i 0 ≤ 20_000
+-- a group's values: 864, none above 20,000
+pub record GroupValues (values : List ℕ) : Type 0 where
+  pub whole : length values ≡ 864
+  pub small : (i : ℕ) → getD values i 0 ≤ 20_000
+
+-- a list in order, and a date's place in it
+pub record InList (holidays : List ℕ) (place : ℕ) (d : Date) : Type 0 where
+  pub inOrder : holidaysQuestion holidays ≡ Pass
+  pub reached : Reached holidays place (numberOf d)
 
 -- a yearly use and a carry in range
 pub record InRange (yearly carry : ℕ) : Type 0 where

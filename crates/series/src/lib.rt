@@ -4,13 +4,14 @@ ghost use mathlib.Core.Path.{_≡_};
 ghost use Prim.Native.Nat.{_≤_};
 ghost use lib.ListN.{length};
 ghost use Rattle.carry.specs.Energy.{powers};
-ghost use Rattle.profile.specs.Inside.{wordsOf};
+ghost use Rattle.refusal.specs.declared.Verdict.the-variants.{Pass};
 ghost use Rattle.calendar.specs.Dates.{dayOfYear};
+ghost use Rattle.calendar.specs.Holidays.{holidaysQuestion};
 ghost use Rattle.dynamisation.specs.Dynamisation.{F};
 ghost use Rattle.day_powers.specs.DayTable.{dayValues};
 ghost use Rattle.day_powers.specs.DayQuarters.{powersBy, dayQuarters};
 ghost use Rattle.series.specs.Series.{quartersOfDays};
-ghost use Rattle.series.specs.Loop.{GroupPart, InRange, RealDay, RealDays, Room, Added, Filled};
+ghost use Rattle.series.specs.Loop.{GroupValues, InList, InRange, RealDay, RealDays, Room, Added, Filled};
 
 // What some quarter hours come to: their count, the sum of their figures in Wh, and the carry that they leave.
 pub struct Totals {
@@ -19,35 +20,46 @@ pub struct Totals {
     pub carry: u32,
 }
 
-// The powers of a day before the clock change.
-fn powers_on(part: &[u8], group: u8, day: CalendarDay, holidays: &[u32]) -> [u32; 96]
-    requires { ⌜ GroupPart (now part) ⌝ }
+// The powers of a day before the clock change. `place` is the day's in the list of holidays.
+fn powers_on(
+    values: &[u16],
+    group: u8,
+    day: CalendarDay,
+    holidays: &[u32],
+    place: usize,
+) -> [u32; 96]
+    requires { ⌜ GroupValues (now values) ⌝ }
     requires { ⌜ RealDay day ⌝ }
-    ensures { λ r. ⌜ r ≡ powersBy (F group (dayOfYear (day .date))) (dayValues (wordsOf (now (part .entry))) (now (holidays .entry)) (day .date)) ⌝ }
+    requires { ⌜ InList (now holidays) place (day .date) ⌝ }
+    ensures { λ r. ⌜ r ≡ powersBy (F group (dayOfYear (day .date))) (dayValues (now (values .entry)) (now (holidays .entry)) (day .date)) ⌝ }
 {
     let season = calendar::days::season_of(day.date);
-    let day_type = calendar::days::day_type_of(day.date, day.weekday, holidays);
+    let number = calendar::dates::number_of(day.date);
+    let holiday = period::holidays::is_listed_at(holidays, place, number);
+    let day_type = calendar::days::day_type_when(day.date, day.weekday, holiday);
     let table = day_powers::table_index(season, day_type);
-    day_powers::powers_of(part, table, dynamisation::factor(group, day.t))
+    day_powers::powers_of(values, table, dynamisation::factor(group, day.t))
 }
 
 // Stores one day's figures behind those before.
 fn expand_day(
-    part: &[u8],
+    values: &[u16],
     group: u8,
     day: CalendarDay,
     holidays: &[u32],
+    place: usize,
     yearly: u32,
     before: Totals,
     out: &mut [u32],
 ) -> Totals
-    requires { ⌜ GroupPart (now part) ⌝ }
+    requires { ⌜ GroupValues (now values) ⌝ }
     requires { ⌜ RealDay day ⌝ }
+    requires { ⌜ InList (now holidays) place (day .date) ⌝ }
     requires { ⌜ InRange yearly (before .carry) ⌝ }
-    requires { ⌜ Room yearly (powers (dayQuarters (wordsOf (now part)) group (now holidays) (day .date))) before (now out) ⌝ }
-    ensures { λ r. ⌜ Added yearly (powers (dayQuarters (wordsOf (now (part .entry))) group (now (holidays .entry)) (day .date))) before (now (out .entry)) r (now (out .exit)) ⌝ }
+    requires { ⌜ Room yearly (powers (dayQuarters (now values) group (now holidays) (day .date))) before (now out) ⌝ }
+    ensures { λ r. ⌜ Added yearly (powers (dayQuarters (now (values .entry)) group (now (holidays .entry)) (day .date))) before (now (out .entry)) r (now (out .exit)) ⌝ }
 {
-    let powers = powers_on(part, group, day, holidays);
+    let powers = powers_on(values, group, day, holidays, place);
     let clock = calendar::days::clock_of(day.date, day.weekday);
     let at = before.count;
     let carried = day_figures::carry_day(powers, clock, yearly, before.carry, out, at);
@@ -60,9 +72,9 @@ fn expand_day(
     }
 }
 
-// Stores the figures of some days from the start of the output on. `part` has the bytes of the group's values.
+// Stores the figures of some days from the start of the output on. `values` are the group's.
 pub fn expand_days(
-    part: &[u8],
+    values: &[u16],
     group: u8,
     first: CalendarDay,
     days: u32,
@@ -71,11 +83,12 @@ pub fn expand_days(
     carry: u32,
     out: &mut [u32],
 ) -> Totals
-    requires { ⌜ GroupPart (now part) ⌝ }
+    requires { ⌜ GroupValues (now values) ⌝ }
     requires { ⌜ RealDays first days ⌝ }
+    requires { ⌜ holidaysQuestion (now holidays) ≡ Pass ⌝ }
     requires { ⌜ InRange yearly carry ⌝ }
-    requires { ⌜ length (quartersOfDays (dayQuarters (wordsOf (now part)) group (now holidays)) days (first .date)) ≤ length (now out) ⌝ }
-    ensures { λ r. ⌜ Filled yearly (powers (quartersOfDays (dayQuarters (wordsOf (now (part .entry))) group (now (holidays .entry))) days (first .date))) carry (now (out .entry)) r (now (out .exit)) ⌝ }
+    requires { ⌜ length (quartersOfDays (dayQuarters (now values) group (now holidays)) days (first .date)) ≤ length (now out) ⌝ }
+    ensures { λ r. ⌜ Filled yearly (powers (quartersOfDays (dayQuarters (now (values .entry)) group (now (holidays .entry))) days (first .date))) carry (now (out .entry)) r (now (out .exit)) ⌝ }
 {
     let mut day = first;
     let mut left = days;
@@ -84,8 +97,10 @@ pub fn expand_days(
         total: 0,
         carry,
     };
+    let mut place: usize = 0;
     while 0 < left {
-        so_far = expand_day(part, group, day, holidays, yearly, so_far, out);
+        place = period::holidays::place_of(holidays, place, calendar::dates::number_of(day.date));
+        so_far = expand_day(values, group, day, holidays, place, yearly, so_far, out);
         day = period::day_after(day);
         left -= 1;
     }

@@ -4,27 +4,28 @@ use libc::STDERR_FILENO;
 use libc::STDIN_FILENO;
 use libc::STDOUT_FILENO;
 use response::Response;
+ghost use Prim.Native.Nat.{_≤_};
+ghost use lib.ListN.{length};
+ghost use Rattle.response.specs.Response.{pageLength};
 
 fn main() {
     // one byte more than an input may have, so that a longer one is told from the longest
     let mut input = [0u8; 65_537];
-    let length = io::read_full(STDIN_FILENO, &mut input);
-    let mut page = [0u8; 65_536];
-    print(&input, length, &mut page);
+    let count = io::read_full(STDIN_FILENO, &mut input);
+    let mut page = [0u8; response::PAGE_LENGTH];
+    print(&input, count, &mut page);
 }
 
 // Prints the response to the input's first bytes.
-fn print(input: &[u8], length: usize, page: &mut [u8]) {
-    if input.len() < length {
-        return;
-    }
-    let answer = response::respond(&input[0..length], page);
+fn print(input: &[u8], count: usize, page: &mut [u8])
+    requires { ⌜ count ≤ length (now input) ⌝ }
+    requires { ⌜ pageLength ≤ length (now page) ⌝ }
+{
+    let answer = response::respond(&input[0..count], page);
     let Response::Written(written) = answer else {
+        // no page of that length is too short
         return;
     };
-    if page.len() < written {
-        return;
-    }
     if !io::write_all(STDOUT_FILENO, &page[0..written]) {
         io::write_all(STDERR_FILENO, b"slp: the output could not be written\n");
     }

@@ -12,7 +12,7 @@ use Rattle.refusal.specs.declared.Verdict.the-variants.{Pass}
 use Rattle.refusal.specs.Verdict.{ask, _then_, askEach}
 use Rattle.refusal.proofs.Laws.{ask-yes, then-pass}
 use Rattle.calendar.specs.Dates.{leapDays, monthLength, isDate, daysOfMonths, dayOfYear, daysOfYears, dayNumber, weekdayOf, nextDay}
-use Rattle.calendar.specs.Days.{season, listed, dayType, lastSunday, clock, positions}
+use Rattle.calendar.specs.Days.{season, listed, dayTypeWhen, lastSunday, clock, positions}
 use Rattle.calendar.specs.Holidays.{dateQuestion, holidaysQuestion}
 use Rattle.profile.specs.File.{byteAt, layoutOf, markQuestion, versionQuestion, lengthQuestion, headerCheck, codeQuestion, valueQuestion, profileValuesQuestion, fileCheck, findAmong, groupQuestion, wordsFrom, check}
 use Rattle.dynamisation.specs.Dynamisation.{X, F, Q}
@@ -57,7 +57,7 @@ by-contract : (q : Request) → ByContract (callFor q)
 by-contract q = record { answers = refl; leaves = refl }
 
 pub worked-instance : WorkedInstance
-unfolding ask _then_ askEach layoutOf findAmong wordsFrom X F Q leapDays monthLength isDate daysOfMonths dayOfYear daysOfYears dayNumber weekdayOf nextDay season listed dayType lastSunday clock positions dateQuestion holidaysQuestion daysOf periodQuestion dayValues dayQuarters quartersOfDays series figures lastCarry sum useQuestion carryQuestion accepted Successive SuccessiveCalls
+unfolding ask _then_ askEach layoutOf findAmong wordsFrom X F Q leapDays monthLength isDate daysOfMonths dayOfYear daysOfYears dayNumber weekdayOf nextDay season listed dayTypeWhen lastSunday clock positions dateQuestion holidaysQuestion daysOf periodQuestion dayValues dayQuarters quartersOfDays series figures lastCarry sum useQuestion carryQuestion accepted Successive SuccessiveCalls
 worked-instance =
     let first = passed-file saturday passes in
     let refused = passed-file between passes in

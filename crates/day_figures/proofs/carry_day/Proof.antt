@@ -9,23 +9,32 @@ use Rattle.day_figures.proofs.carry_day.Tie as tie
 first-end-requires : tie.Need-first-end-requires
 first-end-requires c κs = search needs
 
+slice-aggregate-carry-range : tie.Need-slice-aggregate-carry-range
+slice-aggregate-carry-range c = search needs
+
 carry-range-requires : tie.Need-carry-range-requires
 carry-range-requires c κs =
-    let start = c .before .before .before in
+    let start = c .before .before .before .before in
     let s = cut (start .args .clock) in
-    (start .pre .0, record { ordered = omega arith; within = omega arith; room = omega arith })
+    (start .pre .0, record { ordered = omega arith; within = omega arith; whole = omega arith; room = omega arith })
+
+slice-aggregate-carry-range-2 : tie.Need-slice-aggregate-carry-range-2
+slice-aggregate-carry-range-2 c = search needs
 
 second-start-requires : tie.Need-second-start-requires
 second-start-requires c κs = search needs
 
 add-carry-range : tie.Need-add-carry-range
-add-carry-range c = let s = cut (c .before .before .before .before .before .before .before .before .args .clock) in omega arith
+add-carry-range c =
+    let start = c .before .before .before .before .before .before .before .before .before .before in
+    let s = cut (start .args .clock) in
+    omega arith
 
 carry-range-requires-2 : tie.Need-carry-range-requires-2
 carry-range-requires-2 c κs =
-    let called = c .before .before .before .before in
-    let asked = called .before .before .first-end in
-    let start = called .before .before .before .before in
+    let called = c .before .before .before .before .before in
+    let asked = called .before .before .before .first-end in
+    let start = called .before .before .before .before .before in
     let first = called .carry-range .ensures in (
       handed-on (start .pre .0) first,
       second-in-day _ (start .args .clock) (omega arith) (asked .ensures) (c .before .second-start .ensures) (start .pre .1) first,
@@ -40,9 +49,9 @@ same-length c = search needs
 returns : tie.Need-returns
 returns c =
     let again = c .before .before .before .before in
-    let called = again .before .before .before .before .before in
-    let start = called .before .before .before .before in
-    let end = called .before .before .first-end .ensures in
+    let called = again .before .before .before .before .before .before in
+    let start = called .before .before .before .before .before in
+    let end = called .before .before .before .first-end .ensures in
     let begin = again .before .before .second-start .ensures in
     day _ (start .args .clock) (omega arith) end begin (start .pre .1) (called .carry-range .ensures) (again .carry-range2 .ensures)
 
@@ -51,7 +60,9 @@ carry-day-spec =
     tie.close
     (tie.spec
     first-end-requires
+    slice-aggregate-carry-range
     carry-range-requires
+    slice-aggregate-carry-range-2
     second-start-requires
     add-carry-range
     carry-range-requires-2

@@ -14,7 +14,7 @@ use Rattle.day_figures.proofs.carry_range.Reads as reads
 use Rattle.day_figures.proofs.carry_range.Lts as lts
 
 abbrev Inv-loop : tie.InvT-loop
-Inv-loop from to yearly carry out₀ at powers sum₀ total₀ i₀ place₀ out sum total i place =
+Inv-loop powers from to yearly carry out₀ at sum₀ total₀ i₀ place₀ out sum total i place =
     (from ≤ i)
     × (i ≤ to)
     × (place + (to - i) ≡ at + (to - from))
@@ -23,14 +23,14 @@ Inv-loop from to yearly carry out₀ at powers sum₀ total₀ i₀ place₀ out
     × Left (slice from to powers) yearly carry out₀ at (slice i to powers) sum total out place
 
 abbrev μ-loop : tie.MeasureT-loop
-μ-loop from to yearly carry out₀ at powers sum₀ total₀ i₀ place₀ out sum total i place = to - i
+μ-loop powers from to yearly carry out₀ at sum₀ total₀ i₀ place₀ out sum total i place = to - i
 
 -- the product of a turn
-product : (c : lts.In-loop reads.Pre reads.Post Inv-loop μ-loop) →
-    getD (c .before .before .args .t1) (c .before .loop .i) 0 * c .before .before .args .yearly ≤ 40_000 * 10 ^ 9
+product : (c : lts.After-shared-slice-known reads.Pre reads.Post Inv-loop μ-loop) →
+    getD (c .before .before .before .args .powers .now) (c .before .before .loop .i) 0 * c .before .before .before .args .yearly ≤ 40_000 * 10 ^ 9
 product c =
-    let small = c .before .before .pre .0 in
-    mul-le-mul (small .small (c .before .loop .i)) (small .yearlySmall)
+    let small = c .before .before .before .pre .0 in
+    mul-le-mul (small .small (c .before .before .loop .i)) (small .yearlySmall)
 
 loop-holds : tie.Need-loop-holds Inv-loop μ-loop
 loop-holds c = (omega arith, omega arith, refl, refl, omega arith, start _ _ _ _ _ (c .pre .0 .inRange))
@@ -38,11 +38,11 @@ loop-holds c = (omega arith, omega arith, refl, refl, omega arith, start _ _ _ _
 mul-sum : tie.Need-mul-sum Inv-loop μ-loop
 mul-sum c = omega arith
 
-array-read-sum : tie.Need-array-read-sum Inv-loop μ-loop
-array-read-sum c = omega arith
+shared-slice-read-sum : tie.Need-shared-slice-read-sum Inv-loop μ-loop
+shared-slice-read-sum c = omega arith
 
 cast-sum : tie.Need-cast-sum Inv-loop μ-loop
-cast-sum c = omega (arith, c .before .before .pre .0 .small (c .before .loop .i))
+cast-sum c = omega (arith, c .before .before .before .pre .0 .small (c .before .before .loop .i))
 
 mul-sum-2 : tie.Need-mul-sum-2 Inv-loop μ-loop
 mul-sum-2 c = let p = product c in omega arith
@@ -73,18 +73,18 @@ loop-less c = omega arith
 
 loop-again : tie.Need-loop-again Inv-loop μ-loop
 loop-again c =
-    let l = c .before .loop in
+    let l = c .before .before .loop in
     let p = product c in (
       omega arith,
       omega arith,
       omega arith,
       simp length-set (l .inv .3),
       omega arith,
-      turn _ (l .i) (c .before .before .args .to) (omega arith) (omega arith) (l .inv .5),
+      turn _ (l .i) (c .before .before .before .args .to) (omega arith) (omega arith) (l .inv .5),
     )
 
-cast-t24 : tie.Need-cast-t24 Inv-loop μ-loop
-cast-t24 c = omega arith
+cast-t22 : tie.Need-cast-t22 Inv-loop μ-loop
+cast-t22 c = omega arith
 
 same-length : tie.Need-same-length Inv-loop μ-loop
 same-length c = c .before .loop .inv .3
@@ -102,7 +102,7 @@ carry-range-spec =
     μ-loop
     loop-holds
     mul-sum
-    array-read-sum
+    shared-slice-read-sum
     cast-sum
     mul-sum-2
     add-sum
@@ -114,6 +114,6 @@ carry-range-spec =
     add-place
     loop-less
     loop-again
-    cast-t24
+    cast-t22
     same-length
     returns)

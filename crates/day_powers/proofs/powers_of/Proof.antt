@@ -4,22 +4,21 @@ use mathlib.Core.Path.{_≡_, refl, sym, _∙_}
 use Prim.Native.Nat.{_+_, _-_, _*_, _≤_}
 use native.Mathlib.Omega.{arith}
 use lib.ListN.{length, take, length-set}
-use Rattle.profile.specs.Inside.{wordsOf}
 use Rattle.day_powers.specs.DayTable.{tableAt}
 use Rattle.day_powers.specs.DayQuarters.{powersBy}
-use Rattle.day_powers.proofs.Tables.{length-powers, word-small, power-at, one-more, all-stored}
+use Rattle.day_powers.proofs.Tables.{length-powers, power-at, one-more, all-stored}
 use Rattle.day_powers.proofs.powers_of.Statement.{statement}
 use Rattle.day_powers.proofs.powers_of.Tie as tie
 
 abbrev Inv-loop : tie.InvT-loop
-Inv-loop part table f powers₀ i₀ at₀ powers i at =
+Inv-loop values table f powers₀ i₀ at₀ powers i at =
     (i ≤ 96)
-    × (at ≡ table * 192 + i * 2)
+    × (at ≡ table * 96 + i)
     × (length powers ≡ 96)
-    × (take i powers ≡ take i (powersBy f (tableAt table (wordsOf part))))
+    × (take i powers ≡ take i (powersBy f (tableAt table values)))
 
 abbrev μ-loop : tie.MeasureT-loop
-μ-loop part table f powers₀ i₀ at₀ powers i at = 96 - i
+μ-loop values table f powers₀ i₀ at₀ powers i at = 96 - i
 
 mul-at : tie.Need-mul-at Inv-loop μ-loop
 mul-at c = omega arith
@@ -27,14 +26,17 @@ mul-at c = omega arith
 loop-holds : tie.Need-loop-holds Inv-loop μ-loop
 loop-holds c = (omega arith, omega arith, refl, refl)
 
-word-at-requires : tie.Need-word-at-requires Inv-loop μ-loop
-word-at-requires c κs = omega arith
+mul-power : tie.Need-mul-power Inv-loop μ-loop
+mul-power c = omega arith
+
+shared-slice-read-power : tie.Need-shared-slice-read-power Inv-loop μ-loop
+shared-slice-read-power c = omega arith
+
+cast-power : tie.Need-cast-power Inv-loop μ-loop
+cast-power c = omega (arith, c .before .before .before .before .pre .0 .small (c .before .before .loop .at))
 
 power-requires : tie.Need-power-requires Inv-loop μ-loop
-power-requires c κs =
-    let l = c .before .before .loop in
-    let start = c .before .before .before .before in
-    (omega (arith, word-small (start .pre .0) (l .i) (omega arith) (l .inv .1)), omega arith)
+power-requires c κs = let start = c .before .before .before .before in (start .pre .0 .small (c .before .before .loop .at), start .pre .1)
 
 mul-powers : tie.Need-mul-powers Inv-loop μ-loop
 mul-powers c = omega arith
@@ -56,7 +58,7 @@ loop-again c =
     let l = c .before .before .before .loop in
     let start = c .before .before .before .before .before in
     let inside = start .pre .0 in
-    let q = power-at inside (l .i) (omega arith) (l .inv .1) (start .args .f) ∙ (rw (c .before .word-at .ensures .0) at (sym (c .power .ensures))) in
+    let q = power-at inside (l .i) (omega arith) (l .inv .1) (start .args .f) ∙ sym (c .power .ensures) in
     let all = length-powers inside (start .args .f) in
     (omega arith, omega arith, simp length-set (l .inv .2), one-more (l .i) (l .powers) _ (omega arith) (omega arith) q (l .inv .3))
 
@@ -75,7 +77,9 @@ powers-of-spec =
     μ-loop
     mul-at
     loop-holds
-    word-at-requires
+    mul-power
+    shared-slice-read-power
+    cast-power
     power-requires
     mul-powers
     array-write-powers

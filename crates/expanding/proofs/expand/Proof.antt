@@ -12,11 +12,9 @@ use Rattle.calendar.specs.declared.dates.Date.{Date}
 use Rattle.calendar.specs.Dates.{dateOf, isDate, dayNumber}
 use Rattle.calendar.specs.Days.{valuesOfDays}
 use Rattle.profile.specs.declared.file.Found.the-variants.{At}
-use Rattle.profile.specs.File.{groupIn, fileCheck}
-use Rattle.profile.specs.Inside.{wordsOf}
+use Rattle.profile.specs.File.{groupIn, fileCheck, tableOf}
 use Rattle.profile.proofs.Accepted.{accepted}
 use Rattle.profile.proofs.Finding.{check-found, check-missing, found-inside}
-use Rattle.profile.proofs.Tables.{PartOf, part-of}
 use Rattle.period.specs.declared.CalendarDay.{CalendarDay}
 use Rattle.period.specs.CalendarDay.{calendarDay}
 use Rattle.period.specs.Period.{daysOf}
@@ -27,7 +25,7 @@ use Rattle.series.specs.Loop.{RealDays}
 use Rattle.expanding.specs.Expanding.{Request, request, daysIn, quarters, series, requestCheck}
 use Rattle.expanding.proofs.Accepted.{sound}
 use Rattle.expanding.proofs.Answers.{file-refused, others-refused, output-refused, expanded, series-length, entries-needed}
-use Rattle.expanding.proofs.Given.{group-part, real-days, same-quarters}
+use Rattle.expanding.proofs.Given.{dates, table-is, group-values, real-days, same-quarters}
 use Rattle.expanding.proofs.expand.Statement.{statement}
 use Rattle.expanding.proofs.expand.Tie as tie
 
@@ -88,29 +86,26 @@ needed-is c =
     same : {day e : CalendarDay} {days m : ℕ} → day ≡ e → days ≡ m → valuesOfDays days (day .date) ≡ valuesOfDays m (e .date)
     same h k = rw (h, k)
 
--- the group's part of the file
-abbrev of-part : tie.After-values-of → tie.After-values-of-days
-of-part c = c .before .before
+-- the group's values
+abbrev of-values : tie.After-values-at → tie.After-values-of-days
+of-values c = c .before .before
 
-abbrev wanted : tie.After-values-of → Request
-wanted c = asked (of-count (of-part c))
+abbrev wanted : tie.After-values-at → Request
+wanted c = asked (of-count (of-values c))
 
-part : (c : tie.After-values-of) → PartOf (wanted c .file) (wanted c .group) (c .values-of .result .now)
-part c =
-    let at = of-request (of-count (of-part c)) in
-    part-of _ _ _ (file-passed (of-group at)) (found at) (c .values-of .ensures .bytes)
+table : (c : tie.After-values-at) → c .values-at .result ≡ tableOf (wanted c .file) (wanted c .group)
+table c =
+    let at = of-request (of-count (of-values c)) in
+    table-is _ _ (file-passed (of-group at)) (found at) (c .values-at .ensures)
 
-quarters-are : (c : tie.After-values-of) → quartersOfDays (dayQuarters (wordsOf (c .values-of .result .now)) (wanted c .group) (wanted c .holidays)) (of-part c .before .before .days-of .result) (of-part c .before .calendar-day .result .date) ≡ quarters (wanted c)
-quarters-are c = same-quarters (wanted c) _ _ _ (part c) (day-is (of-part c .before)) (days-are (of-part c .before))
+quarters-are : (c : tie.After-values-at) → quartersOfDays (dayQuarters (c .values-at .result) (wanted c .group) (wanted c .holidays)) (of-values c .before .before .days-of .result) (of-values c .before .calendar-day .result .date) ≡ quarters (wanted c)
+quarters-are c = same-quarters (wanted c) (table c) (day-is (of-values c .before)) (days-are (of-values c .before))
 
-room : (c : tie.After-values-of) → length (series (wanted c)) ≤ length (wanted c .output)
-room c = omega (arith, needed-is (of-part c), c .before .if1 .left)
+room : (c : tie.After-values-at) → length (series (wanted c)) ≤ length (wanted c .output)
+room c = omega (arith, needed-is (of-values c), c .before .if1 .left)
 
-fits : (c : tie.After-values-of) → length (quartersOfDays (dayQuarters (wordsOf (c .values-of .result .now)) (wanted c .group) (wanted c .holidays)) (of-part c .before .before .days-of .result) (of-part c .before .calendar-day .result .date)) ≤ length (wanted c .output)
+fits : (c : tie.After-values-at) → length (quartersOfDays (dayQuarters (c .values-at .result) (wanted c .group) (wanted c .holidays)) (of-values c .before .before .days-of .result) (of-values c .before .calendar-day .result .date)) ≤ length (wanted c .output)
 fits c = omega (arith, ap length (quarters-are c), series-length (wanted c), room c)
-
-dates : {first last : ℕ} {a b : Date} → a ≡ dateOf first → b ≡ dateOf last → Period first last → ((isDate a ≡ true) × (isDate b ≡ true)) × (dayNumber a ≤ dayNumber b)
-dates h k p = rw (h, k) ((p .dates-first, p .dates-last), p .ordered)
 
 check-file-requires : tie.Need-check-file-requires
 check-file-requires c κs = search needs
@@ -175,26 +170,30 @@ returns-4 : tie.Need-returns-4
 returns-4 c =
     output-refused (asked (of-count (c .before))) (request-passed (of-count (c .before))) (needed-is (c .before)) (c .if1 .taken)
 
-values-of-requires : tie.Need-values-of-requires
-values-of-requires c κs =
+values-at-requires : tie.Need-values-at-requires
+values-at-requires c κs =
     let at = of-request (of-count (c .before)) in
     let laid = accepted _ (file-passed (of-group at)) .headed .laid in
     (laid, found-inside _ _ _ laid (found at))
 
+slice-aggregate-expand-days : tie.Need-slice-aggregate-expand-days
+slice-aggregate-expand-days c = search needs
+
 expand-days-requires : tie.Need-expand-days-requires
 expand-days-requires c κs =
-    let v = c .before in
-    let s = sound (wanted v) (request-passed (of-count (of-part v))) in
-    let values = group-part _ _ _ (file-passed (of-group (of-request (of-count (of-part v))))) (part v) in
-    (values, (real (of-part v .before), (record { yearlySmall = s .yearly; carrySmall = s .carry }, fits v)))
+    let v = c .before .before in
+    let at = of-request (of-count (of-values v)) in
+    let s = sound (wanted v) (request-passed (of-count (of-values v))) in
+    let values = group-values _ _ (file-passed (of-group at)) (found at) (v .values-at .ensures) in
+    (values, (real (of-values v .before), (s .holidays, (record { yearlySmall = s .yearly; carrySmall = s .carry }, fits v))))
 
 same-length : tie.Need-same-length
 same-length c = search needs
 
 returns-5 : tie.Need-returns-5
 returns-5 c =
-    let v = c .before .before .before .before in
-    expanded (wanted v) (request-passed (of-count (of-part v))) (room v) (rw (quarters-are v) at (c .before .before .expand-days .ensures))
+    let v = c .before .before .before .before .before in
+    expanded (wanted v) (request-passed (of-count (of-values v))) (room v) (rw (quarters-are v) at (c .before .before .expand-days .ensures))
 
 pub expand-spec : {M : Type 1} → statement M
 expand-spec =
@@ -218,7 +217,8 @@ expand-spec =
     calendar-day-requires
     values-of-days-requires
     returns-4
-    values-of-requires
+    values-at-requires
+    slice-aggregate-expand-days
     expand-days-requires
     same-length
     returns-5)

@@ -10,8 +10,13 @@ slice-aggregate-expand-days c = search needs
 
 expand-days-requires : tie.Need-expand-days-requires
 expand-days-requires c κs =
-    let start = c .before .before .before .before in
-    (start .pre .0, (one-day (start .pre .1 .0), (start .pre .1 .1 .0, one-room (start .pre .0) (start .args .group) (start .args .holidays .now) (start .args .day .date))))
+    let start = c .before .before .before .before in (
+      start .pre .0,
+      (
+        one-day (start .pre .1 .0),
+        (start .pre .1 .1 .0, (start .pre .1 .1 .1 .0, one-room (start .pre .0) (start .args .group) (start .args .holidays .now) (start .args .day .date))),
+      ),
+    )
 
 put-day-line-requires : tie.Need-put-day-line-requires
 put-day-line-requires c κs =
@@ -25,14 +30,14 @@ add-count c =
     let expanded = c .before .before .before .before .before .before .before in
     let start = expanded .before .before .before .before .before in
     let small = few (start .pre .0) (start .args .group) (start .args .holidays .now) (start .args .day .date) (expanded .expand-days .ensures) in
-    omega (arith, start .pre .1 .1 .1 .count)
+    omega (arith, start .pre .1 .1 .1 .1 .count)
 
 add-total : tie.Need-add-total
 add-total c =
     let expanded = c .before .before .before .before .before .before .before .before .before in
     let start = expanded .before .before .before .before .before in
     let total = own-total (start .pre .0) (start .args .group) (start .args .holidays .now) (start .args .day .date) (expanded .expand-days .ensures) in
-    omega (arith, start .pre .1 .1 .1 .total)
+    omega (arith, start .pre .1 .1 .1 .1 .total)
 
 same-length : tie.Need-same-length
 same-length c = search needs

@@ -7,22 +7,28 @@ use Rattle.listing.proofs.list_days.Statement.{statement}
 use Rattle.listing.proofs.list_days.Tie as tie
 
 abbrev Inv-loop : tie.InvT-loop
-Inv-loop part group days holidays yearly page₀ day₀ left₀ so-far₀ page day left so-far =
-    LinesLeft part group holidays yearly days (day₀ .date) page₀ day left so-far page
+Inv-loop values group days holidays yearly page₀ day₀ left₀ so-far₀ page day left so-far =
+    LinesLeft values group holidays yearly days (day₀ .date) page₀ day left so-far page
 
 abbrev μ-loop : tie.MeasureT-loop
-μ-loop part group days holidays yearly page₀ day₀ left₀ so-far₀ page day left so-far = left
+μ-loop values group days holidays yearly page₀ day₀ left₀ so-far₀ page day left so-far = left
 
 loop-holds : tie.Need-loop-holds Inv-loop μ-loop
 loop-holds c =
     let start = c .before .before .before in
-    begin (start .pre .0) (start .args .group) (start .args .holidays .now) (start .pre .1 .0) (start .pre .1 .1 .0) (start .pre .1 .1 .1)
+    begin (start .pre .0) (start .args .group) (start .args .holidays .now) (start .pre .1 .0) (start .pre .1 .1 .1 .0) (start .pre .1 .1 .1 .1)
 
 list-day-requires : tie.Need-list-day-requires Inv-loop μ-loop
 list-day-requires c κs =
     let l = c .before .before .loop .inv in
     let pre = c .before .before .before .before .before .before .pre in
-    (pre .0, (this-day (l .totals) (omega arith), (record { yearlySmall = pre .1 .1 .0 .yearlySmall; carrySmall = l .totals .todo .carrySmall }, line-room l (omega arith))))
+    let limit = pre .1 .1 .1 .0 .yearlySmall in (
+      pre .0,
+      (
+        this-day (l .totals) (omega arith),
+        (pre .1 .1 .0, (record { yearlySmall = limit; carrySmall = l .totals .todo .carrySmall }, line-room l (omega arith))),
+      ),
+    )
 
 day-after-requires : tie.Need-day-after-requires Inv-loop μ-loop
 day-after-requires c κs =

@@ -9,16 +9,15 @@ use Rattle.refusal.specs.declared.Verdict.the-variants.{Pass}
 use Rattle.calendar.specs.declared.dates.Date.{Date}
 use Rattle.calendar.specs.Dates.{dateOf, isDate, dayNumber}
 use Rattle.profile.specs.declared.file.Found.the-variants.{At}
-use Rattle.profile.specs.File.{groupIn}
+use Rattle.profile.specs.File.{groupIn, tableOf}
 use Rattle.profile.proofs.Accepted.{accepted as file-accepted}
 use Rattle.profile.proofs.Finding.{Checked, checked, found-inside}
-use Rattle.profile.proofs.Tables.{PartOf, part-of}
 use Rattle.period.specs.CalendarDay.{calendarDay}
 use Rattle.period.proofs.Days.{Period}
 use Rattle.series.specs.Loop.{RealDays}
 use Rattle.expanding.specs.Expanding.{Request, request, daysIn, requestCheck}
 use Rattle.expanding.proofs.Accepted.{Sound, sound}
-use Rattle.expanding.proofs.Given.{group-part, real-days}
+use Rattle.expanding.proofs.Given.{dates, table-is, group-values, real-days}
 use Rattle.response.proofs.Requests.{refused, accepted}
 use Rattle.response.proofs.put_answer.Statement.{statement}
 use Rattle.response.proofs.put_answer.Tie as tie
@@ -50,18 +49,18 @@ of-group c = c .before .before .before
 found : (c : tie.After-at) → groupIn (asked (of-group c) .file) (asked (of-group c) .group) ≡ At (c .at .given .0 .0)
 found c = sym (c .before .before .find .ensures) ∙ c .at .given .1
 
-abbrev of-part : tie.After-values-of → tie.After-enum-told
-of-part c = of-group (c .before .before)
+abbrev of-values : tie.After-values-at → tie.After-enum-told
+of-values c = of-group (c .before .before)
 
-part : (c : tie.After-values-of) → PartOf (asked (of-part c) .file) (asked (of-part c) .group) (c .values-of .result .now)
-part c = part-of _ _ _ (in-file (of-part c) .passed) (found (c .before .before)) (c .values-of .ensures .bytes)
+table : (c : tie.After-values-at) → c .values-at .result ≡ tableOf (asked (of-values c) .file) (asked (of-values c) .group)
+table c = table-is _ _ (in-file (of-values c) .passed) (found (c .before .before)) (c .values-at .ensures)
 
 -- the first day and the number of days
-abbrev of-day : tie.After-calendar-day → tie.After-values-of
+abbrev of-day : tie.After-calendar-day → tie.After-values-at
 of-day c = c .before .before .before .before
 
 abbrev wanted : tie.After-calendar-day → Request
-wanted c = asked (of-part (of-day c))
+wanted c = asked (of-values (of-day c))
 
 day-is : (c : tie.After-calendar-day) → c .calendar-day .result ≡ calendarDay (dateOf (wanted c .first))
 day-is c = c .calendar-day .ensures ∙ ap calendarDay (c .before .before .before .date-of .ensures)
@@ -73,11 +72,7 @@ days-are c =
     cc (c .before .days-of .ensures)
 
 real : (c : tie.After-calendar-day) → RealDays (c .calendar-day .result) (c .before .days-of .result)
-real c = real-days (wanted c) _ _ (whole (of-part (of-day c))) (day-is c) (days-are c)
-
--- both dates are real and in order
-dates : {first last : ℕ} {a b : Date} → a ≡ dateOf first → b ≡ dateOf last → Period first last → ((isDate a ≡ true) × (isDate b ≡ true)) × (dayNumber a ≤ dayNumber b)
-dates h k p = rw (h, k) ((p .dates-first, p .dates-last), p .ordered)
+real c = real-days (wanted c) _ _ (whole (of-values (of-day c))) (day-is c) (days-are c)
 
 check-request-requires : tie.Need-check-request-requires
 check-request-requires c κs = search needs
@@ -118,8 +113,8 @@ returns-2 c =
     let z : _≡_ {A = ℕ} 0 1 = cc in
     absurd (omega arith)
 
-values-of-requires : tie.Need-values-of-requires
-values-of-requires c κs =
+values-at-requires : tie.Need-values-at-requires
+values-at-requires c κs =
     let laid = file-accepted _ (in-file (of-group (c .before)) .passed) .headed .laid in
     (laid, found-inside _ _ _ laid (found (c .before)))
 
@@ -131,24 +126,29 @@ date-of-requires-2 c κs = search needs
 
 days-of-requires : tie.Need-days-of-requires
 days-of-requires c κs =
-    dates (c .before .date-of .ensures) (c .date-of2 .ensures) (whole (of-part (c .before .before)) .period)
+    dates (c .before .date-of .ensures) (c .date-of2 .ensures) (whole (of-values (c .before .before)) .period)
 
 calendar-day-requires : tie.Need-calendar-day-requires
 calendar-day-requires c κs =
-    ap isDate (c .before .before .date-of .ensures) ∙ whole (of-part (c .before .before .before)) .period .dates-first
+    ap isDate (c .before .before .date-of .ensures) ∙ whole (of-values (c .before .before .before)) .period .dates-first
+
+slice-aggregate-list-days : tie.Need-slice-aggregate-list-days
+slice-aggregate-list-days c = search needs
 
 list-days-requires : tie.Need-list-days-requires
 list-days-requires c κs =
-    let values = of-day (c .before) in
-    let s = whole (of-part values) in
-    let room = of-check (of-part values) .pre in
-    (group-part _ _ _ (in-file (of-part values) .passed) (part values), (real (c .before), (record { yearlySmall = s .yearly; carrySmall = s .carry }, omega arith)))
+    let day = c .before .before in
+    let values = of-day day in
+    let s = whole (of-values values) in
+    let room = of-check (of-values values) .pre in
+    let sound-values = group-values _ _ (in-file (of-values values) .passed) (found (values .before .before)) (values .values-at .ensures) in
+    (sound-values, (real day, (s .holidays, (record { yearlySmall = s .yearly; carrySmall = s .carry }, omega arith))))
 
 put-last-line-requires : tie.Need-put-last-line-requires
 put-last-line-requires c κs =
     let list = c .before .before .before in
-    let day = list .before .before in
-    omega (arith, of-check (of-part (of-day day)) .pre, real day .few, list .list-days .ensures .short)
+    let day = list .before .before .before in
+    omega (arith, of-check (of-values (of-day day)) .pre, real day .few, list .list-days .ensures .short)
 
 same-length-2 : tie.Need-same-length-2
 same-length-2 c = search needs
@@ -157,9 +157,9 @@ returns-3 : tie.Need-returns-3
 returns-3 c =
     let line = c .before .before in
     let list = line .before .before .before .before in
-    let day = list .before .before in
-    let at = of-part (of-day day) in
-    accepted (wanted day) (request-passed at) refl (part (of-day day)) (day-is day) (days-are day) (list .list-days .ensures) (line .put-last-line .ensures) (of-check at .pre)
+    let day = list .before .before .before in
+    let at = of-values (of-day day) in
+    accepted (wanted day) (request-passed at) refl (table (of-day day)) (day-is day) (days-are day) (list .list-days .ensures) (line .put-last-line .ensures) (of-check at .pre)
 
 pub put-answer-spec : {M : Type 1} → statement M
 put-answer-spec =
@@ -175,11 +175,12 @@ put-answer-spec =
     enum-known-at
     enum-told-3
     returns-2
-    values-of-requires
+    values-at-requires
     date-of-requires
     date-of-requires-2
     days-of-requires
     calendar-day-requires
+    slice-aggregate-list-days
     list-days-requires
     put-last-line-requires
     same-length-2

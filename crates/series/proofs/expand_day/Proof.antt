@@ -20,7 +20,7 @@ carry-day-requires c κs =
     let start = asked .before .before .before .before .before in
     let (small, room) =
     carry-asked (start .pre .0) (start .args .group) (start .args .holidays .now) (start .args .day .date)
-    (asked .before .powers-on .ensures) (asked .clock-of .ensures) (start .pre .1 .1 .1) (start .pre .1 .0 .real) (start .pre .1 .1 .0) in
+    (asked .before .powers-on .ensures) (asked .clock-of .ensures) (start .pre .1 .1 .1 .1) (start .pre .1 .0 .real) (start .pre .1 .1 .1 .0) in
     (small, omega arith)
 
 values-under-requires : tie.Need-values-under-requires
@@ -39,7 +39,7 @@ add-total c =
     let start = asked .before .before .before .before .before in
     let fits =
     total-fits (start .pre .0) (start .args .group) (start .args .holidays .now) (start .args .day .date)
-    (asked .before .powers-on .ensures) (asked .clock-of .ensures) (start .pre .1 .1 .1) (called .carry-day .ensures .totalIs) in
+    (asked .before .powers-on .ensures) (asked .clock-of .ensures) (start .pre .1 .1 .1 .1) (called .carry-day .ensures .totalIs) in
     omega arith
 
 same-length : tie.Need-same-length
@@ -51,7 +51,7 @@ returns c =
     let asked = called .before .before in
     let start = asked .before .before .before .before .before in
     added (start .pre .0) (start .args .group) (start .args .holidays .now) (start .args .day .date)
-    (asked .before .powers-on .ensures) (asked .clock-of .ensures) (start .pre .1 .1 .1) (called .carry-day .ensures) (c .before .before .values-under .ensures)
+    (asked .before .powers-on .ensures) (asked .clock-of .ensures) (start .pre .1 .1 .1 .1) (called .carry-day .ensures) (c .before .before .values-under .ensures)
 
 pub expand-day-spec : {M : Type 1} → statement M
 expand-day-spec =
