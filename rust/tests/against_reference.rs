@@ -2,6 +2,7 @@
 //! the lent output is compared; the counts by question number show that each way out of a call was taken.
 mod draw;
 mod reference;
+mod repository;
 mod tally;
 
 use std::collections::BTreeSet;
@@ -392,12 +393,7 @@ fn the_marked_figures() {
 /// Document 01's listing, of the second implementation itself.
 #[test]
 fn the_listing() {
-    let stored = |name| {
-        fs::read(format!(
-            "{}/../crates/slp/{name}",
-            env!("CARGO_MANIFEST_DIR")
-        ))
-    };
-    let text = reference::program(&stored("stdin").unwrap());
-    assert_eq!(text.into_bytes(), stored("stdout").unwrap());
+    let stored = |name| fs::read(repository::path(name)).unwrap();
+    let text = reference::program(&stored("crates/slp/stdin"));
+    assert_eq!(text.into_bytes(), stored("crates/slp/stdout"));
 }

@@ -1,4 +1,5 @@
 //! The files of `examples` are what the tools and the library make of each other.
+mod repository;
 mod tool;
 
 use std::fs;

@@ -1,4 +1,6 @@
 //! `include/slp.h` compiles as C without a warning, and a C program calls every function through it.
+mod repository;
+
 use std::path::{Path, PathBuf};
 use std::process::Command;
 
@@ -12,14 +14,13 @@ fn compiler() -> &'static str {
 }
 
 fn compile() -> PathBuf {
-    let package = Path::new(env!("CARGO_MANIFEST_DIR"));
     let program = Path::new(env!("CARGO_TARGET_TMPDIR")).join("header");
     let compiled = Command::new(compiler())
         .args(["-std=c99", "-Wall", "-Wextra", "-Wpedantic", "-Werror"])
         .arg("-I")
-        .arg(package.join("../include"))
-        .arg(package.join("tests/header.c"))
-        .arg(package.join("../target/staticlib/libexports.a"))
+        .arg(repository::path("include"))
+        .arg(repository::path("rust/tests/header.c"))
+        .arg(repository::path("target/staticlib/libexports.a"))
         .arg("-o")
         .arg(&program)
         .output()

@@ -4,11 +4,12 @@
 mod draw;
 #[allow(dead_code)] // likewise
 mod reference;
+mod repository;
 mod tally;
 
 use std::fs::{self, File};
 use std::io::{ErrorKind, Write};
-use std::path::{Path, PathBuf};
+use std::path::PathBuf;
 use std::process::{Child, Command, Output, Stdio};
 use std::thread::sleep;
 use std::time::Duration;
@@ -19,13 +20,8 @@ use tally::Tally;
 const INPUTS: u64 = 1_500;
 const LONGEST_INPUT: usize = 65_536;
 
-/// A path below the repository's root.
-fn repository(path: &str) -> PathBuf {
-    Path::new(env!("CARGO_MANIFEST_DIR")).join("..").join(path)
-}
-
 fn program() -> PathBuf {
-    let program = repository("target/bin/slp");
+    let program = repository::path("target/bin/slp");
     assert!(
         program.is_file(),
         "target/bin/slp is missing: run `rt check slp` in the repository's root, which builds it"
@@ -239,15 +235,15 @@ fn an_input_of_65536_bytes_is_read_whole() {
 
 #[test]
 fn the_stored_listing_is_the_programs() {
-    let request = fs::read(repository("examples/year_2000.request")).unwrap();
-    let listing = fs::read_to_string(repository("examples/year_2000.txt")).unwrap();
+    let request = fs::read(repository::path("examples/year_2000.request")).unwrap();
+    let listing = fs::read_to_string(repository::path("examples/year_2000.txt")).unwrap();
     assert!(expect_agreement(&request, "year 2000") == listing);
 }
 
 // Reading and writing.
 
 fn listing_input() -> Vec<u8> {
-    fs::read(repository("crates/slp/stdin")).unwrap()
+    fs::read(repository::path("crates/slp/stdin")).unwrap()
 }
 
 const LISTING: &str = "2000-03-25 T2 96 2402\n2000-03-26 T3 92 2302\ntotal 2 188 4704 28000\n";
@@ -271,7 +267,7 @@ fn a_pipe_may_deliver_a_byte_at_a_time() {
 /// A folder can be opened and not read.
 #[test]
 fn a_failed_read_ends_the_input() {
-    let folder = File::open(repository("target")).unwrap();
+    let folder = File::open(repository::path("target")).unwrap();
     let output = Command::new(program()).stdin(folder).output().unwrap();
     assert_eq!(printed(output), "refused 13 0\n");
 }

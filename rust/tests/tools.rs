@@ -1,4 +1,5 @@
 //! What the two tools refuse, and that they write nothing then.
+mod repository;
 mod tool;
 
 use std::fs;
