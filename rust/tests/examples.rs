@@ -52,15 +52,15 @@ fn unpacking_the_profile_file_makes_the_table() {
 
 #[test]
 fn the_request_is_made_anew() {
-    let arguments = ["G0", "2000-01-01", "2000-12-31", "3500"];
-    let files = [example("holidays_2000.txt"), example("made_up.slp")];
-    let made = written(slp_request(&[
-        arguments[0],
-        arguments[1],
-        arguments[2],
-        arguments[3],
-        &files[0],
-        &files[1],
-    ]));
+    let (holidays, profile) = (example("holidays_2000.txt"), example("made_up.slp"));
+    let arguments = [
+        "G0",
+        "2000-01-01",
+        "2000-12-31",
+        "3500",
+        &holidays,
+        &profile,
+    ];
+    let made = written(slp_request(&arguments));
     assert_eq!(made, fs::read(example("year_2000.request")).unwrap());
 }

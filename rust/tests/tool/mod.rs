@@ -4,7 +4,7 @@ use std::process::{Command, Output};
 
 use crate::repository;
 
-pub fn run(program: &str, arguments: &[&str]) -> Output {
+fn run(program: &str, arguments: &[&str]) -> Output {
     Command::new(program)
         .args(arguments)
         .output()
