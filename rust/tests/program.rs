@@ -59,11 +59,12 @@ fn text_for(input: &[u8]) -> String {
     printed(child.wait_with_output().unwrap())
 }
 
-/// The program prints what the second implementation does. A difference is shown by the first lines that differ.
+/// The program prints what the second implementation does. A difference is shown by the lengths and the first lines that differ.
 fn expect_agreement(input: &[u8], what: &str) -> String {
     let (found, wanted) = (text_for(input), reference::program(input));
     let differ = found.lines().zip(wanted.lines()).find(|(f, w)| f != w);
-    assert!(found == wanted, "{what}: {differ:?}");
+    let lengths = (found.len(), wanted.len());
+    assert!(found == wanted, "{what}: {lengths:?} bytes, {differ:?}");
     found
 }
 
@@ -281,14 +282,16 @@ fn a_full_device_is_said_on_standard_error() {
     assert_eq!(String::from_utf8_lossy(&output.stderr), UNWRITTEN);
 }
 
-/// The pipe is closed before the input ends, so before the program writes. The shell has it ignore the signal that would
-/// otherwise end it there, as it ends other programs.
+/// The pipe is closed before the input is given, so before the program writes; the pause is for processes that other tests
+/// are just starting, which have it open until they have become the program. The shell has the program ignore the signal
+/// that would otherwise end it there, as it ends other programs.
 #[test]
 fn a_closed_pipe_is_said_on_standard_error() {
     let ignoring = ["-c", "trap '' PIPE; exec \"$0\""];
     let mut shell = Command::new("sh");
     let mut child = started(shell.args(ignoring).arg(program()).stdout(Stdio::piped()));
     drop(child.stdout.take());
+    sleep(Duration::from_millis(50));
     give(&mut child, &listing_input());
     let output = child.wait_with_output().unwrap();
     assert_eq!(String::from_utf8_lossy(&output.stderr), UNWRITTEN);
