@@ -7,6 +7,7 @@
 use std::fmt;
 
 use crate::group;
+use crate::text::{content, quoted};
 use crate::GROUP_VALUES;
 
 const COLUMNS: [&str; 9] = [
@@ -79,7 +80,8 @@ impl Line<'_> {
         if found == wanted {
             return Ok(());
         }
-        Err(self.fault(column, format!("{found:?} stands where {wanted:?} should")))
+        let found = quoted(found);
+        Err(self.fault(column, format!("{found} stands where {wanted:?} should")))
     }
 }
 
@@ -111,12 +113,6 @@ pub fn parse(text: &str) -> Result<Table, Fault> {
         Some(line) => Err(line.fault(1, format!("more than {ROWS} lines of values"))),
         None => Ok(Table { code, values }),
     }
-}
-
-fn content(text: &str) -> impl Iterator<Item = (usize, &str)> {
-    (1..)
-        .zip(text.lines().map(str::trim))
-        .filter(|(_, line)| !line.is_empty() && !line.starts_with('#'))
 }
 
 fn separator_of(text: &str) -> char {
@@ -154,9 +150,10 @@ fn end_of(row: usize) -> String {
 /// Tenths of a watt.
 fn parse_watts(field: &str) -> Result<u16, String> {
     let tenths = tenths_of(field)
-        .ok_or_else(|| format!("{field:?} is no number of watts with one decimal"))?;
+        .ok_or_else(|| format!("{} is no number of watts with one decimal", quoted(field)))?;
     if tenths > LARGEST {
-        return Err(format!("{field} W is above 2000.0 W, the largest value"));
+        let field = quoted(field);
+        return Err(format!("{field} is above 2000.0 W, the largest value"));
     }
     Ok(tenths as u16)
 }
@@ -226,8 +223,8 @@ mod tests {
     }
 
     #[test]
-    fn remarks_blank_lines_and_line_ends_of_windows_are_passed_over() {
-        let text = format!("# made up; by hand\n\n{}\n#\n", text());
+    fn what_other_programs_add_is_passed_over() {
+        let text = format!("\u{feff}# made up; by hand\n\n{}\n#\n", text());
         assert_eq!(parse(&text.replace('\n', "\r\n")), Ok(table()));
     }
 

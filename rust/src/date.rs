@@ -1,4 +1,5 @@
 //! Dates as text. Whether a date is real is left to the proved calls.
+use crate::text::{content, quoted};
 
 /// The number yyyymmdd of a text yyyy-mm-dd.
 ///
@@ -19,7 +20,7 @@ pub fn parse(text: &str) -> Option<u32> {
 
 /// What a message says of a text that is no date.
 pub fn misshapen(text: &str) -> String {
-    format!("{text:?} is no date of the form yyyy-mm-dd")
+    format!("{} is no date of the form yyyy-mm-dd", quoted(text))
 }
 
 /// The dates of a holiday file, one a line. Blank lines and lines that begin with `#` are passed over.
@@ -28,9 +29,7 @@ pub fn misshapen(text: &str) -> String {
 /// assert_eq!(slp::date::parse_list("# New Year\n2000-01-01\n"), Ok(vec![20000101]));
 /// ```
 pub fn parse_list(text: &str) -> Result<Vec<u32>, String> {
-    let lines = (1..).zip(text.lines().map(str::trim));
-    lines
-        .filter(|(_, line)| !line.is_empty() && !line.starts_with('#'))
+    content(text)
         .map(|(n, line)| parse(line).ok_or_else(|| format!("line {n}: {}", misshapen(line))))
         .collect()
 }

@@ -1,4 +1,5 @@
 //! The groups' names.
+use crate::text::quoted;
 
 /// The name of each code.
 pub const NAMES: [&str; 11] = [
@@ -20,7 +21,8 @@ pub fn code_of(name: &str) -> Option<u8> {
 
 /// What a message says of a name that is none.
 pub fn unknown(name: &str) -> String {
-    format!("{name:?} is no group: the groups are {}", NAMES.join(", "))
+    let (name, names) = (quoted(name), NAMES.join(", "));
+    format!("{name} is no group: the groups are {names}")
 }
 
 #[cfg(test)]

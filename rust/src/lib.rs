@@ -33,6 +33,7 @@ pub mod files;
 pub mod group;
 pub mod program;
 pub mod report;
+pub mod text;
 
 use std::fmt;
 
@@ -81,7 +82,7 @@ impl Refusal {
             10 => "the yearly use is above 1,000,000,000 kWh",
             11 => "the carry is above 39,999",
             12 => "the output is too short",
-            _ => "a question that document 01 does not have",
+            _ => "this is no question of the calls",
         }
     }
 }
@@ -314,4 +315,19 @@ pub fn expand(request: &Request, out: &mut [u32]) -> Result<Expansion, Refusal> 
         total: report.total,
         carry: report.carry,
     })
+}
+
+#[cfg(test)]
+mod tests {
+    use super::*;
+    use std::collections::BTreeSet;
+
+    #[test]
+    fn every_question_has_words_of_its_own() {
+        let words = |number| Refusal { number, place: 0 }.meaning();
+        let of_questions: BTreeSet<_> = (1..=12).map(words).collect();
+        assert_eq!(of_questions.len(), 12);
+        assert!(!of_questions.contains(words(0)));
+        assert_eq!(words(13), words(0));
+    }
 }

@@ -38,7 +38,7 @@ impl Input {
         bytes.extend(&self.file);
         if bytes.len() > LONGEST_INPUT {
             return Err(format!(
-                "{listed} holidays and the profile file make a request longer than 65,536 bytes"
+                "{listed} holidays and the profile file make a request longer than 65,536 bytes, the most that the program takes"
             ));
         }
         Ok(bytes)

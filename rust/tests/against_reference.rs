@@ -2,74 +2,19 @@
 //! the lent output is compared; the counts by question number show that each way out of a call was taken.
 mod draw;
 mod reference;
+mod repository;
+mod tally;
 
-use std::collections::{BTreeMap, BTreeSet};
+use std::collections::BTreeSet;
+use std::fs;
 
 use draw::Draw;
 use reference::No;
 use slp::report::{CheckReport, ComparisonReport, DayReport, ExpansionReport, LocatedPart};
 use slp::{DayType, Refusal, Request, Season};
+use tally::{figures, Tally};
 
 const INPUTS: u64 = 30_000;
-
-/// How many inputs each question refused (number 0: none did), and at how many places.
-#[derive(Default)]
-struct Tally {
-    inputs: BTreeMap<u32, usize>,
-    places: BTreeMap<u32, BTreeSet<usize>>,
-}
-
-impl Tally {
-    fn note<T>(&mut self, answer: &Result<T, No>) {
-        let (number, place) = figures(answer);
-        *self.inputs.entry(number).or_default() += 1;
-        self.places.entry(number).or_default().insert(place);
-    }
-
-    /// Each of the call's questions refused some inputs, no other did, and a good share was accepted.
-    fn expect(&self, call: &str, questions: &[u32]) {
-        println!(
-            "{call}: inputs by question number (0 accepted) {:?}",
-            self.inputs
-        );
-        let mut numbers = vec![0];
-        numbers.extend(questions);
-        assert!(self.inputs.keys().eq(&numbers), "{call}: {:?}", self.inputs);
-        assert!(
-            self.inputs.values().all(|&n| n >= 50),
-            "{call}: {:?}",
-            self.inputs
-        );
-        assert!(
-            self.inputs[&0] as u64 >= INPUTS * 2 / 5,
-            "{call}: {:?}",
-            self.inputs
-        );
-    }
-
-    fn expect_places(&self, number: u32, places: &[usize]) {
-        assert!(
-            self.places[&number].iter().eq(places),
-            "question {number}: {:?}",
-            self.places[&number]
-        );
-    }
-
-    fn expect_many_places(&self, number: u32, at_least: usize) {
-        assert!(
-            self.places[&number].len() >= at_least,
-            "question {number}: {:?}",
-            self.places[&number]
-        );
-    }
-}
-
-fn figures<T>(answer: &Result<T, No>) -> (u32, usize) {
-    match answer {
-        Ok(_) => (0, 0),
-        Err(no) => (no.number, no.place),
-    }
-}
 
 fn check_report(answer: &Result<(), No>) -> CheckReport {
     let (number, place) = figures(answer);
@@ -97,7 +42,7 @@ fn check() {
         assert_eq!(slp::check(&file, group), wrapped(answer), "seed {seed}");
         tally.note(&answer);
     }
-    tally.expect("check", &[1, 2, 3, 4, 5, 6]);
+    tally.expect("check", &[1, 2, 3, 4, 5, 6], 50);
     tally.expect_places(4, &(0..11).map(|i| 6 + 1729 * i).collect::<Vec<_>>());
     tally.expect_many_places(5, 200);
     tally.expect_places(6, &[0]);
@@ -131,7 +76,7 @@ fn locate() {
         assert_eq!(answer.is_ok(), length == 1728, "seed {seed}");
         tally.note(&answer);
     }
-    tally.expect("locate", &[1, 2, 3, 4, 5, 6]);
+    tally.expect("locate", &[1, 2, 3, 4, 5, 6], 50);
 }
 
 #[test]
@@ -160,7 +105,7 @@ fn read() {
         assert_eq!(table, expected, "seed {seed}");
         tally.note(&answer);
     }
-    tally.expect("read", &[1, 2, 3, 4, 5, 6, 12]);
+    tally.expect("read", &[1, 2, 3, 4, 5, 6, 12], 50);
     tally.expect_places(12, &[864]);
 }
 
@@ -189,7 +134,7 @@ fn write() {
         assert_eq!(buffer, expected, "seed {seed}");
         tally.note(&answer);
     }
-    tally.expect("write", &[3, 4, 5, 12]);
+    tally.expect("write", &[3, 4, 5, 12], 50);
     tally.expect_places(4, &(0..11).map(|i| 6 + 1729 * i).collect::<Vec<_>>());
     tally.expect_many_places(5, 200);
     tally.expect_many_places(12, 6);
@@ -226,7 +171,7 @@ fn compare() {
             alike[report.alike as usize] += 1;
         }
     }
-    tally.expect("compare", &[1, 2, 3, 4, 5, 6]);
+    tally.expect("compare", &[1, 2, 3, 4, 5, 6], 50);
     tally.expect_places(6, &[0, 1]);
     assert!(
         alike.iter().all(|&n| n > 500),
@@ -281,7 +226,7 @@ fn day() {
         tally.note(&answer);
         kinds.extend(answer.map(|day| (day.season, day.day_type, day.values)));
     }
-    tally.expect("day", &[7, 9]);
+    tally.expect("day", &[7, 9], 50);
     tally.expect_places(7, &[0]);
     tally.expect_many_places(9, 100);
     assert_eq!(
@@ -373,7 +318,7 @@ fn expand() {
             long += u32::from(sums.count > 130_000);
         }
     }
-    tally.expect("expand", &[1, 2, 3, 4, 5, 6, 7, 8, 9, 10, 11, 12]);
+    tally.expect("expand", &[1, 2, 3, 4, 5, 6, 7, 8, 9, 10, 11, 12], 50);
     tally.expect_places(7, &[0, 1]);
     tally.expect_many_places(9, 50);
     tally.expect_many_places(12, 10);
@@ -443,4 +388,12 @@ fn the_marked_figures() {
         reference::values_of(&reference::span()[first..first + 366]),
         35_136
     );
+}
+
+/// Document 01's listing, of the second implementation itself.
+#[test]
+fn the_listing() {
+    let stored = |name| fs::read(repository::path(name)).unwrap();
+    let text = reference::program(&stored("crates/slp/stdin"));
+    assert_eq!(text.into_bytes(), stored("crates/slp/stdout"));
 }

@@ -1,9 +1,10 @@
 //! The files of `examples` are what the tools and the library make of each other.
+mod repository;
 mod tool;
 
 use std::fs;
 
-use slp::{csv, DayType, Request, Season};
+use slp::csv;
 use tool::{example, scratch, slp_csv, slp_request, text, written};
 
 fn made_up() -> Vec<u8> {
@@ -51,72 +52,15 @@ fn unpacking_the_profile_file_makes_the_table() {
 
 #[test]
 fn the_request_is_made_anew() {
-    let arguments = ["G0", "2000-01-01", "2000-12-31", "3500"];
-    let files = [example("holidays_2000.txt"), example("made_up.slp")];
-    let made = written(slp_request(&[
-        arguments[0],
-        arguments[1],
-        arguments[2],
-        arguments[3],
-        &files[0],
-        &files[1],
-    ]));
+    let (holidays, profile) = (example("holidays_2000.txt"), example("made_up.slp"));
+    let arguments = [
+        "G0",
+        "2000-01-01",
+        "2000-12-31",
+        "3500",
+        &holidays,
+        &profile,
+    ];
+    let made = written(slp_request(&arguments));
     assert_eq!(made, fs::read(example("year_2000.request")).unwrap());
-}
-
-/// The program's listing was made by `target/bin/slp`; here it is made from the exported calls.
-#[test]
-fn the_listing_is_what_the_calls_give() {
-    let holidays = fs::read_to_string(example("holidays_2000.txt")).unwrap();
-    let listing = listing_of_2000(&made_up(), &slp::date::parse_list(&holidays).unwrap());
-    assert_eq!(
-        fs::read_to_string(example("year_2000.txt")).unwrap(),
-        listing
-    );
-}
-
-fn listing_of_2000(file: &[u8], holidays: &[u32]) -> String {
-    let (mut text, mut days, mut values, mut total, mut carry) = (String::new(), 0, 0, 0, 0);
-    let mut out = [0; 100];
-    for date in 20_000_101..=20_001_231 {
-        let Ok(day) = slp::day(date, holidays) else {
-            continue;
-        };
-        let request = Request {
-            file,
-            group: 1,
-            first: date,
-            last: date,
-            holidays,
-            yearly: 3500,
-            carry,
-        };
-        let made = slp::expand(&request, &mut out).unwrap();
-        let (month, of_month) = (date / 100 % 100, date % 100);
-        text += &format!(
-            "2000-{month:02}-{of_month:02} {} {} {}\n",
-            kind(&day),
-            made.count,
-            made.total
-        );
-        days += 1;
-        values += made.count;
-        total += made.total;
-        carry = made.carry;
-    }
-    text + &format!("total {days} {values} {total} {carry}\n")
-}
-
-fn kind(day: &slp::Day) -> String {
-    let season = match day.season {
-        Season::Winter => 'W',
-        Season::Summer => 'S',
-        Season::Transition => 'T',
-    };
-    let digit = match day.day_type {
-        DayType::Weekday => 1,
-        DayType::Saturday => 2,
-        DayType::Sunday => 3,
-    };
-    format!("{season}{digit}")
 }

@@ -1,43 +1,58 @@
-//! `include/slp.h` compiles as C without a warning, and a C program calls every function through it.
+//! `include/slp.h` compiles as C and as C++ without a warning, and a program calls every function through it.
+mod repository;
+
 use std::path::{Path, PathBuf};
 use std::process::Command;
 
-const COMPILERS: [&str; 2] = ["cc", "gcc"];
-
-fn compiler() -> &'static str {
-    COMPILERS
-        .into_iter()
-        .find(|name| Command::new(name).arg("--version").output().is_ok())
-        .expect("a C compiler is needed to test include/slp.h: neither cc nor gcc can be run")
+/// The first of these compilers that can be run.
+fn compiler(names: &[&'static str]) -> Option<&'static str> {
+    let runs = |name: &&&str| Command::new(name).arg("--version").output().is_ok();
+    names.iter().find(runs).copied()
 }
 
-fn compile() -> PathBuf {
-    let package = Path::new(env!("CARGO_MANIFEST_DIR"));
-    let program = Path::new(env!("CARGO_TARGET_TMPDIR")).join("header");
-    let compiled = Command::new(compiler())
-        .args(["-std=c99", "-Wall", "-Wextra", "-Wpedantic", "-Werror"])
-        .arg("-I")
-        .arg(package.join("../include"))
-        .arg(package.join("tests/header.c"))
-        .arg(package.join("../target/staticlib/libexports.a"))
+/// Compiles `header.c`.
+fn compiled(compiler: &str, language: &str, standard: &str) -> PathBuf {
+    let program = Path::new(env!("CARGO_TARGET_TMPDIR")).join(format!("header_{standard}"));
+    let output = Command::new(compiler)
+        .args([format!("-x{language}"), format!("-std={standard}")])
+        .args(["-Wall", "-Wextra", "-Wpedantic", "-Werror", "-I"])
+        .arg(repository::path("include"))
+        .arg(repository::path("rust/tests/header.c"))
+        .arg("-xnone")
+        .arg(repository::path("target/staticlib/libexports.a"))
         .arg("-o")
         .arg(&program)
         .output()
         .expect("the compiler runs");
     assert!(
-        compiled.status.success(),
-        "tests/header.c does not compile:\n{}",
-        String::from_utf8_lossy(&compiled.stderr)
+        output.status.success(),
+        "tests/header.c does not compile as {standard}:\n{}",
+        String::from_utf8_lossy(&output.stderr)
     );
     program
 }
 
-#[test]
-fn a_c_program_calls_every_function() {
-    let ran = Command::new(compile()).output().expect("the program runs");
+fn expect_no_differences(program: &Path) {
+    let ran = Command::new(program).output().expect("the program runs");
     assert!(
         ran.status.success(),
         "tests/header.c found differences:\n{}",
         String::from_utf8_lossy(&ran.stdout)
     );
+}
+
+#[test]
+fn a_c_program_calls_every_function() {
+    let compiler = compiler(&["cc", "gcc"])
+        .expect("a C compiler is needed to test include/slp.h: neither cc nor gcc can be run");
+    expect_no_differences(&compiled(compiler, "c", "c99"));
+}
+
+/// Only where there is a C++ compiler: the repository needs none otherwise.
+#[test]
+fn a_cpp_program_calls_every_function() {
+    match compiler(&["c++", "g++"]) {
+        Some(compiler) => expect_no_differences(&compiled(compiler, "c++", "c++11")),
+        None => println!("not tried: neither c++ nor g++ can be run"),
+    }
 }

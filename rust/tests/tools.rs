@@ -1,9 +1,10 @@
-//! What the two tools refuse, and that they write nothing then.
+//! What the two tools refuse, and that they write nothing then. A refusal is one message that begins with the tool's name.
+mod repository;
 mod tool;
 
-use std::fs;
+use std::fs::{self, File};
 use std::path::Path;
-use std::process::Output;
+use std::process::{Command, Output};
 
 use tool::{example, scratch, slp_csv, slp_request, text, written};
 
@@ -12,6 +13,11 @@ fn expect_refused(output: Output, said: &[&str]) {
     let complaint = String::from_utf8_lossy(&output.stderr);
     assert!(!output.status.success(), "{said:?}");
     assert_eq!(output.stdout, b"", "{complaint}");
+    let named = ["slp_request: ", "slp_csv: "];
+    assert!(
+        named.iter().any(|name| complaint.starts_with(name)),
+        "{complaint}"
+    );
     for part in said {
         assert!(complaint.contains(part), "{part:?} is not in: {complaint}");
     }
@@ -88,6 +94,17 @@ fn a_request_names_the_line_of_a_bad_holiday() {
     );
 }
 
+/// The profile file given for the holidays: its first line is long, and a message quotes its beginning.
+#[test]
+fn a_message_quotes_a_part_of_a_long_line() {
+    let output = request_with(4, &example("made_up.slp"));
+    assert!(output.stderr.len() < 300, "{} bytes", output.stderr.len());
+    expect_refused(
+        output,
+        &["made_up.slp: line 1: \"SLP\\0", "\".. is no date"],
+    );
+}
+
 #[test]
 fn a_request_refuses_files_that_cannot_be_read() {
     expect_refused(request_with(4, "nowhere.txt"), &["cannot read nowhere.txt"]);
@@ -125,6 +142,28 @@ fn a_request_encodes_what_the_program_refuses() {
         20_001_332u32.to_be_bytes()
     );
     assert_eq!(written(request_with(3, "4294967295"))[9..13], [255; 4]);
+}
+
+/// Runs a tool whose standard output is a full device.
+fn into_full(tool: &str, arguments: &[&str]) -> Output {
+    let full = File::options().write(true).open("/dev/full").unwrap();
+    let mut command = Command::new(tool);
+    command.args(arguments).stdout(full);
+    command.output().expect("the tool runs")
+}
+
+#[test]
+fn a_failed_write_is_said() {
+    let profile = example("made_up.slp");
+    let request = ["G0", "2000-01-01", "2000-12-31", "3500", "-", &profile];
+    expect_refused(
+        into_full(env!("CARGO_BIN_EXE_slp_request"), &request),
+        &["cannot write standard output"],
+    );
+    expect_refused(
+        into_full(env!("CARGO_BIN_EXE_slp_csv"), &["unpack", &profile, "G0"]),
+        &["cannot write standard output"],
+    );
 }
 
 fn table() -> String {

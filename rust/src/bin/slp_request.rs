@@ -4,6 +4,7 @@ use std::path::Path;
 use std::process::ExitCode;
 
 use slp::program::{parse_number, Input, LONGEST_INPUT};
+use slp::text::quoted;
 use slp::{date, files, group};
 
 const USAGE: &str = "usage: slp_request GROUP FIRST LAST KWH HOLIDAYS PROFILE > REQUEST
@@ -48,8 +49,12 @@ fn parsed_date(argument: &str, text: &str) -> Result<u32, String> {
 }
 
 fn number(argument: &str, text: &str) -> Result<u32, String> {
-    parse_number(text)
-        .ok_or_else(|| format!("{argument}: {text:?} is no whole number from 0 to 4294967295"))
+    parse_number(text).ok_or_else(|| {
+        format!(
+            "{argument}: {} is no whole number from 0 to 4294967295",
+            quoted(text)
+        )
+    })
 }
 
 fn list(holidays: &OsStr) -> Result<Vec<u32>, String> {

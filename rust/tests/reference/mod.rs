@@ -1,5 +1,5 @@
-//! A second implementation of every call, in plain Rust, written from documents 00 and 01 alone and not from the proved code
-//! or its definitions. It is as plain as possible: a file is taken apart into profiles, the calendar is a list of all days,
+//! A second implementation of every call and of the program's text, in plain Rust, written from documents 00 and 01 alone and
+//! not from the proved code or its definitions. It is as plain as possible: a file is taken apart into profiles, the calendar is a list of all days,
 //! a day is a list of positions, and each quarter hour is one carry step.
 use std::sync::OnceLock;
 
@@ -32,8 +32,8 @@ struct Profile {
     values: Vec<u16>,
 }
 
-fn big_endian(bytes: &[u8]) -> u16 {
-    256 * u16::from(bytes[0]) + u16::from(bytes[1])
+fn big_endian(bytes: &[u8]) -> u32 {
+    bytes.iter().fold(0, |n, &byte| 256 * n + u32::from(byte))
 }
 
 /// Questions 1 to 3: the file's profiles, with nothing known yet about their codes and values.
@@ -47,7 +47,7 @@ fn taken_apart(file: &[u8]) -> Result<Vec<Profile>, No> {
         .chunks(PROFILE)
         .map(|bytes| Profile {
             code: bytes[0],
-            values: bytes[1..].chunks(2).map(big_endian).collect(),
+            values: bytes[1..].chunks(2).map(|b| big_endian(b) as u16).collect(),
         })
         .collect())
 }
@@ -333,35 +333,94 @@ fn period(first: u32, last: u32) -> Result<&'static [SpanDay], No> {
     Ok(&span()[from..=to])
 }
 
-pub fn expand(request: &Request, out: &mut [u32]) -> Result<Sums, No> {
+/// Questions 1 to 11: the group's values and the period's days.
+fn request_asked(request: &Request) -> Result<(Vec<u16>, &'static [SpanDay]), No> {
     let values = group_values(request.file, request.group)?;
     let days = period(request.first, request.last)?;
     list_asked(request.holidays)?;
     ask(request.yearly <= 1_000_000_000, 10, 0)?;
     ask(request.carry <= 39_999, 11, 0)?;
+    Ok((values, days))
+}
+
+pub fn expand(request: &Request, out: &mut [u32]) -> Result<Sums, No> {
+    let (values, days) = request_asked(request)?;
     let needed = values_of(days);
     ask(out.len() >= needed, 12, needed)?;
-
     let mut sums = Sums {
         count: 0,
         total: 0,
         carry: request.carry,
     };
     for day in days {
-        expand_day(request, &values, day, &mut sums, out);
+        let figures = day_figures(request, &values, day, &mut sums.carry);
+        out[sums.count..][..figures.len()].copy_from_slice(&figures);
+        sums.count += figures.len();
+        sums.total += sum(&figures);
     }
     Ok(sums)
 }
 
-fn expand_day(request: &Request, values: &[u16], day: &SpanDay, sums: &mut Sums, out: &mut [u32]) {
+/// A day's figures; `carry` is the one handed to the day and becomes the one that it hands on.
+fn day_figures(request: &Request, values: &[u16], day: &SpanDay, carry: &mut u32) -> Vec<u32> {
     let column = 3 * (season(day) - 1) + day_type(day, request.holidays) - 1;
     let table = &values[96 * column as usize..][..96];
+    let mut figures = Vec::new();
     for position in positions(day) {
         let q = power(request.group, day.t, table[position]);
-        let (figure, carry) = carry_step(q, request.yearly, sums.carry);
-        out[sums.count] = figure;
-        sums.count += 1;
-        sums.total += u64::from(figure);
-        sums.carry = carry;
+        let (figure, next) = carry_step(q, request.yearly, *carry);
+        figures.push(figure);
+        *carry = next;
     }
+    figures
+}
+
+fn sum(figures: &[u32]) -> u64 {
+    figures.iter().map(|&figure| u64::from(figure)).sum()
+}
+
+// The program.
+
+/// What the program prints for an input.
+pub fn program(input: &[u8]) -> String {
+    listing(input).unwrap_or_else(|no| format!("refused {} {}\n", no.number, no.place))
+}
+
+/// Question 13, then 1 to 11; the lines of the days and the last line.
+pub fn listing(input: &[u8]) -> Result<String, No> {
+    const INCOMPLETE: No = No {
+        number: 13,
+        place: 0,
+    };
+    ask(input.len() <= 65_536, 13, 0)?;
+    let (head, rest) = input.split_at_checked(15).ok_or(INCOMPLETE)?;
+    let listed = big_endian(&head[13..15]) as usize;
+    let (list, file) = rest.split_at_checked(4 * listed).ok_or(INCOMPLETE)?;
+    let holidays: Vec<u32> = list.chunks(4).map(big_endian).collect();
+    let request = Request {
+        file,
+        group: head[0],
+        first: big_endian(&head[1..5]),
+        last: big_endian(&head[5..9]),
+        holidays: &holidays,
+        yearly: big_endian(&head[9..13]),
+        carry: 0,
+    };
+    let (values, days) = request_asked(&request)?;
+    Ok(lines(&request, &values, days))
+}
+
+fn lines(request: &Request, values: &[u16], days: &[SpanDay]) -> String {
+    let (mut text, mut count, mut total, mut carry) = (String::new(), 0, 0, 0);
+    for day in days {
+        let figures = day_figures(request, values, day, &mut carry);
+        let (year, month, of_month) = (day.number / 10_000, day.month, day.day);
+        let letter = ["W", "S", "T"][season(day) as usize - 1];
+        let digit = day_type(day, request.holidays);
+        let (of_day, wh) = (figures.len(), sum(&figures));
+        text += &format!("{year}-{month:02}-{of_month:02} {letter}{digit} {of_day} {wh}\n");
+        count += of_day;
+        total += wh;
+    }
+    text + &format!("total {} {count} {total} {carry}\n", days.len())
 }

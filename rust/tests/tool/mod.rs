@@ -2,7 +2,9 @@
 use std::path::{Path, PathBuf};
 use std::process::{Command, Output};
 
-pub fn run(program: &str, arguments: &[&str]) -> Output {
+use crate::repository;
+
+fn run(program: &str, arguments: &[&str]) -> Output {
     Command::new(program)
         .args(arguments)
         .output()
@@ -27,8 +29,7 @@ pub fn written(output: Output) -> Vec<u8> {
 
 /// The path of a file in `examples`.
 pub fn example(name: &str) -> String {
-    let folder = Path::new(env!("CARGO_MANIFEST_DIR")).join("../examples");
-    text(&folder.join(name))
+    text(&repository::path("examples").join(name))
 }
 
 /// A path for a file that a test makes.

@@ -1,0 +1,298 @@
+//! The built program, `target/bin/slp`: every byte that it prints is held to the second implementation, and its reading and
+//! writing are tried with long inputs, slow pipes, failing reads and failing writes.
+#[allow(dead_code)] // against_reference.rs uses the rest
+mod draw;
+#[allow(dead_code)] // likewise
+mod reference;
+mod repository;
+mod tally;
+
+use std::fs::{self, File};
+use std::io::{ErrorKind, Write};
+use std::path::PathBuf;
+use std::process::{Child, Command, Output, Stdio};
+use std::thread::sleep;
+use std::time::Duration;
+
+use draw::Draw;
+use tally::Tally;
+
+const INPUTS: u64 = 1_500;
+const LONGEST_INPUT: usize = 65_536;
+
+fn program() -> PathBuf {
+    let program = repository::path("target/bin/slp");
+    assert!(
+        program.is_file(),
+        "target/bin/slp is missing: run `rt check slp` in the repository's root, which builds it"
+    );
+    program
+}
+
+fn started(command: &mut Command) -> Child {
+    command
+        .stdin(Stdio::piped())
+        .stderr(Stdio::piped())
+        .spawn()
+        .expect("the program runs")
+}
+
+/// Gives the program its input and closes it; of one that is too long, the program leaves a part unread.
+fn give(child: &mut Child, input: &[u8]) {
+    let given = child.stdin.take().unwrap().write_all(input);
+    if let Err(error) = given {
+        assert_eq!(error.kind(), ErrorKind::BrokenPipe);
+        assert!(input.len() > LONGEST_INPUT);
+    }
+}
+
+/// What the program printed, with nothing to complain of.
+fn printed(output: Output) -> String {
+    assert_eq!(String::from_utf8_lossy(&output.stderr), "");
+    assert!(output.status.success(), "{}", output.status);
+    String::from_utf8(output.stdout).expect("the program prints ASCII")
+}
+
+fn text_for(input: &[u8]) -> String {
+    let mut child = started(Command::new(program()).stdout(Stdio::piped()));
+    give(&mut child, input);
+    printed(child.wait_with_output().unwrap())
+}
+
+/// The program prints what the second implementation does. A difference is shown by the lengths and the first lines that differ.
+fn expect_agreement(input: &[u8], what: &str) -> String {
+    let (found, wanted) = (text_for(input), reference::program(input));
+    let differ = found.lines().zip(wanted.lines()).find(|(f, w)| f != w);
+    let lengths = (found.len(), wanted.len());
+    assert!(found == wanted, "{what}: {lengths:?} bytes, {differ:?}");
+    found
+}
+
+/// An input, put together from its parts.
+fn input(group: u8, numbers: [u32; 3], holidays: &[u32], file: &[u8]) -> Vec<u8> {
+    let mut bytes = vec![group];
+    bytes.extend(numbers.iter().flat_map(|number| number.to_be_bytes()));
+    bytes.extend((holidays.len() as u16).to_be_bytes());
+    bytes.extend(holidays.iter().flat_map(|date| date.to_be_bytes()));
+    bytes.extend(file);
+    bytes
+}
+
+/// A file of the groups from H0 up to `last`, with one value throughout.
+fn constant_file(last: u8, value: u16) -> Vec<u8> {
+    let mut file = vec![b'S', b'L', b'P', 0, 1, last + 1];
+    for code in 0..=last {
+        file.push(code);
+        file.extend(value.to_be_bytes().repeat(reference::VALUES));
+    }
+    file
+}
+
+fn dates(first: u32, days: usize) -> Vec<u32> {
+    let first = reference::index_of(first).unwrap();
+    let days = &reference::span()[first..first + days];
+    days.iter().map(|day| day.number).collect()
+}
+
+// Random inputs.
+
+/// First and last index of a period, more often a long one than `draw::period` has it.
+fn drawn_period(draw: &mut Draw) -> (usize, usize) {
+    if !draw.chance(8) {
+        return draw::period(draw);
+    }
+    let days = draw.pick(&[1_461, 1_461, 1_461, 1_460, 366, 1_462]);
+    let first = draw.between(0, reference::span().len() - days);
+    (first, first + days - 1)
+}
+
+fn drawn_input(draw: &mut Draw) -> Vec<u8> {
+    let (file, codes) = draw::file(draw, 15);
+    let group = draw::group(draw, &codes);
+    let (first, last) = drawn_period(draw);
+    let dates = [first, last].map(|index| draw::date(draw, index, 3));
+    let yearly = draw::yearly(draw);
+    let holidays = draw::list(draw, first);
+    let mut bytes = input(group, [dates[0], dates[1], yearly], &holidays, &file);
+    damage(draw, &mut bytes, holidays.len());
+    bytes
+}
+
+/// Sometimes cuts the head or the list, makes the list's length another, or the input too long.
+fn damage(draw: &mut Draw, bytes: &mut Vec<u8>, listed: usize) {
+    match draw.below(40) {
+        0 => bytes.truncate(draw.between(0, 14)),
+        1 => bytes.truncate(15 + draw.between(0, 4 * listed)),
+        2 => {
+            let any = draw.word() as u16;
+            let other = draw.pick(&[listed as u16 + 1, any, any % 1_000, u16::MAX]);
+            bytes[13..15].copy_from_slice(&other.to_be_bytes());
+        }
+        3 => {
+            let length = LONGEST_INPUT + draw.pick(&[0, 1, 2, 10_000, 200_000]);
+            bytes.resize(length, draw.byte());
+        }
+        _ => {}
+    }
+}
+
+/// Whether one of the lines is that of a 24 or 31 December which is no Sunday.
+fn has_a_years_end(text: &str) -> bool {
+    let mut lines = text.lines();
+    lines.any(|line| line.contains("-12-24 W2") || line.contains("-12-31 W2"))
+}
+
+#[test]
+fn random_inputs_agree() {
+    let mut tally = Tally::default();
+    let (mut longest, mut short_days, mut long_days, mut ends) = (0, 0, 0, 0);
+    for seed in 0..INPUTS {
+        let input = drawn_input(&mut Draw::new(7_000_000 + seed));
+        let text = expect_agreement(&input, &format!("seed {seed}"));
+        tally.note(&reference::listing(&input));
+        longest += u32::from(text.lines().count() == 1_462);
+        short_days += u32::from(text.contains(" T3 92 "));
+        long_days += u32::from(text.contains(" T3 100 "));
+        ends += u32::from(has_a_years_end(&text));
+    }
+    tally.expect("program", &[1, 2, 3, 4, 5, 6, 7, 8, 9, 10, 13], 10);
+    tally.expect_places(7, &[0, 1]);
+    tally.expect_many_places(9, 10);
+    tally.expect_many_places(5, 10);
+    tally.expect_places(13, &[0]);
+    println!("program: {longest} of 1,461 days; with 92 values {short_days}, 100 {long_days}, a year's end {ends}");
+    assert!([longest, short_days, long_days, ends]
+        .iter()
+        .all(|&n| n >= 20));
+}
+
+// Inputs that chance draws seldom.
+
+/// All days from 20 December on are listed: 24 and 31 December count as Saturday where they are no Sunday.
+#[test]
+fn listed_year_ends_agree() {
+    let file = constant_file(10, 1001);
+    for year in 1996..=2099 {
+        let (first, last) = (10_000 * year + 1220, 10_000 * year + 1231);
+        let input = input(1, [first, last, 1000], &dates(first, 12), &file);
+        expect_agreement(&input, &format!("{year}"));
+    }
+    let input = input(
+        1,
+        [19_991_223, 19_991_225, 1000],
+        &dates(19_991_223, 3),
+        &file,
+    );
+    assert_eq!(
+        text_for(&input),
+        "1999-12-23 W3 96 2402\n1999-12-24 W2 96 2402\n1999-12-25 W3 96 2403\ntotal 3 288 7207 8000\n"
+    );
+}
+
+/// The longest period, the largest values and use, the longest list; and each of the four one larger.
+#[test]
+fn the_limits_agree() {
+    let holidays = dates(19_960_101, 401);
+    let text = |last, listed, yearly, value| {
+        let file = constant_file(0, value);
+        let input = input(0, [19_960_101, last, yearly], &holidays[..listed], &file);
+        expect_agreement(&input, "limits")
+    };
+    let largest = text(19_991_231, 400, 1_000_000_000, 20_000);
+    assert_eq!(largest.lines().count(), 1_462);
+    assert_eq!(
+        text(20_000_101, 400, 1_000_000_000, 20_000),
+        "refused 8 0\n"
+    );
+    assert_eq!(
+        text(19_991_231, 401, 1_000_000_000, 20_000),
+        "refused 9 400\n"
+    );
+    assert_eq!(
+        text(19_991_231, 400, 1_000_000_001, 20_000),
+        "refused 10 0\n"
+    );
+    assert_eq!(
+        text(19_991_231, 400, 1_000_000_000, 20_001),
+        "refused 5 7\n"
+    );
+}
+
+/// No accepted input is as long as 65,536 bytes: the longest file and list have 20,640 with the head. Here every date of the
+/// list is in order, and a file of all groups follows.
+#[test]
+fn an_input_of_65536_bytes_is_read_whole() {
+    let file = constant_file(10, 1001);
+    let listed = (LONGEST_INPUT - 15 - file.len()) / 4;
+    let holidays = dates(19_960_101, listed);
+    let mut longest = input(1, [20_000_325, 20_000_326, 1000], &holidays, &file);
+    assert_eq!(longest.len(), LONGEST_INPUT);
+    assert_eq!(expect_agreement(&longest, "longest"), "refused 9 400\n");
+    longest.push(0);
+    assert_eq!(expect_agreement(&longest, "one more"), "refused 13 0\n");
+    longest.resize(1_000_000, 0);
+    assert_eq!(expect_agreement(&longest, "many more"), "refused 13 0\n");
+}
+
+#[test]
+fn the_stored_listing_is_the_programs() {
+    let request = fs::read(repository::path("examples/year_2000.request")).unwrap();
+    let listing = fs::read_to_string(repository::path("examples/year_2000.txt")).unwrap();
+    assert!(expect_agreement(&request, "year 2000") == listing);
+}
+
+// Reading and writing.
+
+fn listing_input() -> Vec<u8> {
+    fs::read(repository::path("crates/slp/stdin")).unwrap()
+}
+
+const LISTING: &str = "2000-03-25 T2 96 2402\n2000-03-26 T3 92 2302\ntotal 2 188 4704 28000\n";
+const UNWRITTEN: &str = "slp: the output could not be written\n";
+
+#[test]
+fn a_pipe_may_deliver_a_byte_at_a_time() {
+    let mut child = started(Command::new(program()).stdout(Stdio::piped()));
+    let mut pipe = child.stdin.take().unwrap();
+    for (i, byte) in listing_input().into_iter().enumerate() {
+        pipe.write_all(&[byte]).unwrap();
+        pipe.flush().unwrap();
+        if i < 20 || i % 100 == 0 {
+            sleep(Duration::from_millis(2));
+        }
+    }
+    drop(pipe);
+    assert_eq!(printed(child.wait_with_output().unwrap()), LISTING);
+}
+
+/// A folder can be opened and not read.
+#[test]
+fn a_failed_read_ends_the_input() {
+    let folder = File::open(repository::path("target")).unwrap();
+    let output = Command::new(program()).stdin(folder).output().unwrap();
+    assert_eq!(printed(output), "refused 13 0\n");
+}
+
+#[test]
+fn a_full_device_is_said_on_standard_error() {
+    let full = File::options().write(true).open("/dev/full").unwrap();
+    let mut child = started(Command::new(program()).stdout(full));
+    give(&mut child, &listing_input());
+    let output = child.wait_with_output().unwrap();
+    assert_eq!(String::from_utf8_lossy(&output.stderr), UNWRITTEN);
+}
+
+/// The pipe is closed before the input is given, so before the program writes; the pause is for processes that other tests
+/// are just starting, which have it open until they have become the program. The shell has the program ignore the signal
+/// that would otherwise end it there, as it ends other programs.
+#[test]
+fn a_closed_pipe_is_said_on_standard_error() {
+    let ignoring = ["-c", "trap '' PIPE; exec \"$0\""];
+    let mut shell = Command::new("sh");
+    let mut child = started(shell.args(ignoring).arg(program()).stdout(Stdio::piped()));
+    drop(child.stdout.take());
+    sleep(Duration::from_millis(50));
+    give(&mut child, &listing_input());
+    let output = child.wait_with_output().unwrap();
+    assert_eq!(String::from_utf8_lossy(&output.stderr), UNWRITTEN);
+}
