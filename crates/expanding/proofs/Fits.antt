@@ -7,9 +7,9 @@ use native.Mathlib.Nat.{mul-le-mul}
 use native.Mathlib.Omega.{arith}
 use Rattle.refusal.specs.declared.Verdict.the-variants.{Pass}
 use Rattle.calendar.specs.Dates.{dateOf}
-use Rattle.profile.specs.Calls.{located}
-use Rattle.profile.proofs.Finding.{checked}
-use Rattle.profile.proofs.Tables.{located-part}
+use Rattle.group.specs.Calls.{located}
+use Rattle.group.proofs.Finding.{checked}
+use Rattle.group.proofs.Tables.{located-part}
 use Rattle.period.specs.CalendarDay.{calendarDay}
 use Rattle.carry.specs.Carry.{figures, sum}
 use Rattle.carry.specs.Energy.{Each, powers}

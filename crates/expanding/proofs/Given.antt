@@ -9,10 +9,11 @@ use lib.Dec.{ltb}
 use lib.ListN.{getD, List·getD-eq-default}
 use Rattle.refusal.specs.declared.Verdict.the-variants.{Pass}
 use Rattle.calendar.specs.Dates.{dateOf}
-use Rattle.profile.specs.File.{layoutOf, fileCheck, tableOf}
+use Rattle.profile.specs.File.{layoutOf, fileCheck}
+use Rattle.group.specs.Group.{tableOf}
 use Rattle.profile.specs.Inside.{wordsOf}
 use Rattle.profile.proofs.Accepted.{accepted}
-use Rattle.profile.proofs.Tables.{PartOf, part-length, part-words, table-bound, table-length}
+use Rattle.group.proofs.Tables.{PartOf, part-length, part-words, table-bound, table-length}
 use Rattle.period.specs.declared.CalendarDay.{CalendarDay}
 use Rattle.period.specs.CalendarDay.{calendarDay}
 use Rattle.period.proofs.Days.{period-days}

@@ -9,9 +9,9 @@ use Rattle.refusal.specs.declared.Verdict.{Verdict}
 use Rattle.refusal.specs.declared.Verdict.the-variants.{Pass, Refused}
 use Rattle.refusal.proofs.Laws.{IsRefused, passed-not-refused}
 use Rattle.calendar.specs.Dates.{dateOf}
-use Rattle.profile.specs.File.{tableOf}
+use Rattle.group.specs.Group.{tableOf}
 use Rattle.profile.specs.Inside.{wordsOf}
-use Rattle.profile.proofs.Tables.{PartOf, part-words}
+use Rattle.group.proofs.Tables.{PartOf, part-words}
 use Rattle.period.specs.declared.CalendarDay.{CalendarDay}
 use Rattle.period.specs.CalendarDay.{calendarDay}
 use Rattle.expanding.specs.Expanding.{Request, request, daysIn, series, totals, requestCheck}

@@ -11,12 +11,13 @@ use Rattle.refusal.proofs.Laws.{stops, then-pass}
 use Rattle.calendar.specs.declared.dates.Date.{Date}
 use Rattle.calendar.specs.Dates.{dateOf, isDate, dayNumber}
 use Rattle.calendar.specs.Days.{valuesOfDays}
-use Rattle.profile.specs.declared.file.Found.the-variants.{At}
-use Rattle.profile.specs.File.{groupIn, fileCheck}
+use Rattle.group.specs.declared.Found.the-variants.{At}
+use Rattle.profile.specs.File.{fileCheck}
+use Rattle.group.specs.Group.{groupIn}
 use Rattle.profile.specs.Inside.{wordsOf}
 use Rattle.profile.proofs.Accepted.{accepted}
-use Rattle.profile.proofs.Finding.{check-found, check-missing, found-inside}
-use Rattle.profile.proofs.Tables.{PartOf, part-of}
+use Rattle.group.proofs.Finding.{check-found, check-missing, found-inside}
+use Rattle.group.proofs.Tables.{PartOf, part-of}
 use Rattle.period.specs.declared.CalendarDay.{CalendarDay}
 use Rattle.period.specs.CalendarDay.{calendarDay}
 use Rattle.period.specs.Period.{daysOf}

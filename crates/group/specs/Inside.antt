@@ -1,0 +1,12 @@
+-- What `values_of` promises its callers. No definition of document 01.
+use mathlib.Core.Path.{_≡_}
+use mathlib.Core.List.{List}
+use Prim.Native.Nat.{ℕ, _+_, _*_}
+use lib.ListN.{take, drop}
+use denote.Ref.{RefT, now}
+use Rattle.profile.specs.File.{layoutOf}
+
+-- the value bytes of the profile whose code stands at `at`, as that part of the file's own memory
+pub record ValuesOf (file : RefT (List ℕ)) (at : ℕ) (part : RefT (List ℕ)) : Type 0 where
+  pub bytes : now part ≡ take (layoutOf (now file) .values * 2) (drop (at + layoutOf (now file) .before) (now file))
+  pub start : part .ptr ≡ (file .ptr .0, file .ptr .1 + (at + layoutOf (now file) .before))
