@@ -15,8 +15,8 @@ fn wanted(file: &[u8]) -> u32 {
     let mut case: usize = 0;
     while case < 6 {
         let code = case as u8;
-        let answered = profile::group::check(file, code);
-        let part = profile::group::locate(file, code);
+        let answered = group::check(file, code);
+        let part = group::locate(file, code);
         agree += agreement::verdict(b"wanted group", case, answered, number(code), 0);
         agree += agreement::count(b"located group", case, part.len(), part_length(code));
         case += 1;
@@ -39,8 +39,8 @@ fn compared(file: &[u8]) -> u32 {
 fn compared_pair(file: &[u8], case: usize, first: u8, second: u8) -> u32
     ensures { λ r. ⌜ r ≤ 2 ⌝ }
 {
-    let c = profile::comparing::compare(file, first, second);
-    let r = profile::comparing::report(c);
+    let c = group::comparing::compare(file, first, second);
+    let r = group::comparing::report(c);
     let number = compared_number(first, second);
     let place = compared_place(first, second);
     agreement::figures(b"compared", case, r.number, r.place, number, place)

@@ -17,7 +17,7 @@ fn each_byte(file: &mut [u8; 3464]) -> u32 {
         let at = case / 256;
         let byte = (case % 256) as u8;
         file[at] = byte;
-        let answered = profile::group::check(file, 0);
+        let answered = group::check(file, 0);
         agree += agreement::verdict(b"header", case, answered, number(at, byte), 0);
         file[at] = good::HEADER[at];
         case += 1;

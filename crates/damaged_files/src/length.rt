@@ -38,6 +38,6 @@ fn cut_at(file: &[u8], n: usize, number: u32) -> u32
     requires { ⌜ n ≤ length (now file) ⌝ }
     ensures { λ r. ⌜ r ≤ 1 ⌝ }
 {
-    let answered = profile::group::check(&file[0..n], 0);
+    let answered = group::check(&file[0..n], 0);
     agreement::verdict(b"length", n, answered, number, 0)
 }

@@ -17,8 +17,8 @@ fn short_table(file: &[u8]) -> u32
     ensures { λ r. ⌜ r ≤ 3 ⌝ }
 {
     let mut table = [MARK; 863];
-    let missing = profile::reading::read(file, 5, &mut table);
-    let present = profile::reading::read(file, 0, &mut table);
+    let missing = group::reading::read(file, 5, &mut table);
+    let present = group::reading::read(file, 0, &mut table);
     agreement::verdict(b"short table", 5, missing, 6, 0)
         + agreement::verdict(b"short table", 0, present, 12, 864)
         + agreement::count(b"short table kept", 0, kept(&table, 0), 863)
@@ -30,7 +30,7 @@ fn long_table(file: &[u8], code: u8, position: usize) -> u32
     ensures { λ r. ⌜ r ≤ 3 ⌝ }
 {
     let mut table = [MARK; 870];
-    let answered = profile::reading::read(file, code, &mut table);
+    let answered = group::reading::read(file, code, &mut table);
     agreement::verdict(b"long table", position, answered, 0, 0)
         + agreement::count(
             b"long table values",

@@ -27,11 +27,11 @@ fn each_call(file: &[u8], number: u32, place: usize) -> u32
     ensures { λ r. ⌜ r ≤ 5 ⌝ }
 {
     let mut table = [crate::reading::MARK; 864];
-    let checked = profile::group::check(file, 0);
-    let part = profile::group::locate(file, 0);
-    let read = profile::reading::read(file, 0, &mut table);
-    let c = profile::comparing::compare(file, 0, 4);
-    let compared = profile::comparing::report(c);
+    let checked = group::check(file, 0);
+    let part = group::locate(file, 0);
+    let read = group::reading::read(file, 0, &mut table);
+    let c = group::comparing::compare(file, 0, 4);
+    let compared = group::comparing::report(c);
     let case = number as usize;
     agreement::verdict(b"refused check", case, checked, number, place)
         + agreement::count(b"refused locate", case, part.len(), 0)

@@ -21,7 +21,7 @@ fn one_value(file: &mut [u8; 3464]) -> u32 {
         let position = good::tried(case / 3);
         let value = tried_value(case % 3);
         put(file, position, value);
-        let answered = profile::group::check(file, 0);
+        let answered = group::check(file, 0);
         agree += agreement::verdict(
             b"one value",
             case,
@@ -44,7 +44,7 @@ fn two_values(file: &mut [u8; 3464]) -> u32 {
         let b = good::tried(case % 6);
         put(file, a, 20_001);
         put(file, b, 20_001);
-        let answered = profile::group::check(file, 0);
+        let answered = group::check(file, 0);
         agree += agreement::verdict(
             b"two bad values",
             case,
@@ -80,7 +80,7 @@ fn bad_code(file: &mut [u8; 3464], case: usize, at: usize) -> u32
 {
     let code = file[at];
     file[at] = 11;
-    let answered = profile::group::check(file, 0);
+    let answered = group::check(file, 0);
     file[at] = code;
     agreement::verdict(b"bad code and bad value", case, answered, 4, at)
 }

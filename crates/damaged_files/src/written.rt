@@ -36,7 +36,7 @@ fn read_again() -> u32
     let mut file = [0u8; 3464];
     good::make(&mut file);
     let mut values = [0u16; 1728];
-    profile::reading::read(&file, 4, &mut values[864..]);
+    group::reading::read(&file, 4, &mut values[864..]);
     read_first(&file, &mut values);
     let mut buffer = [FILLER; 3464];
     let answered = good::write(&values, &mut buffer);
@@ -46,7 +46,7 @@ fn read_again() -> u32
 
 // Reads the first profile, which keeps the values of the second.
 fn read_first(file: &[u8], values: &mut [u16; 1728]) {
-    profile::reading::read(file, 0, values);
+    group::reading::read(file, 0, values);
 }
 
 // A buffer one byte too short.

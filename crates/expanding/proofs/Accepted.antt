@@ -8,7 +8,7 @@ use Rattle.refusal.specs.declared.Verdict.the-variants.{Pass}
 use Rattle.refusal.specs.Verdict.{_then_}
 use Rattle.refusal.proofs.Laws.{ask-yes, ask-passed, then-pass, then-first, then-next}
 use Rattle.calendar.specs.Holidays.{holidaysQuestion}
-use Rattle.profile.specs.File.{check}
+use Rattle.group.specs.Group.{check}
 use Rattle.period.specs.Period.{periodCheck}
 use Rattle.period.proofs.Days.{Period, period-passed, period-passes}
 use Rattle.expanding.specs.Expanding.{Request, useQuestion, carryQuestion, requestCheck, outputQuestion, expandCheck}

@@ -12,8 +12,9 @@ use Rattle.refusal.proofs.Laws.{IsRefused, passed-not-refused, stops, then-pass
 use Rattle.calendar.specs.Dates.{dateOf}
 use Rattle.calendar.specs.Days.{valuesOfDays}
 use Rattle.calendar.specs.Holidays.{holidaysQuestion}
-use Rattle.profile.specs.File.{layoutOf, check, tableOf}
-use Rattle.profile.proofs.Tables.{table-length}
+use Rattle.profile.specs.File.{layoutOf}
+use Rattle.group.specs.Group.{check, tableOf}
+use Rattle.group.proofs.Tables.{table-length}
 use Rattle.period.specs.Period.{periodCheck}
 use Rattle.carry.specs.Energy.{powers}
 use Rattle.carry.proofs.Joining.{length-figures}

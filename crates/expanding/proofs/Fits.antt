@@ -6,7 +6,7 @@ use Prim.Native.Nat.{ℕ, _+_, _*_, _/_, _%_, _^_, _≤_, _<_}
 use native.Mathlib.Nat.{mul-le-mul}
 use native.Mathlib.Omega.{arith}
 use Rattle.calendar.specs.Dates.{dateOf}
-use Rattle.profile.proofs.Finding.{checked}
+use Rattle.group.proofs.Finding.{checked}
 use Rattle.period.specs.CalendarDay.{calendarDay}
 use Rattle.carry.specs.Carry.{figures, sum}
 use Rattle.carry.specs.Energy.{Each, powers}

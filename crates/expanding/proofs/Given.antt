@@ -10,11 +10,13 @@ use lib.ListN.{getD, List·getD-eq-default}
 use Rattle.refusal.specs.declared.Verdict.the-variants.{Pass}
 use Rattle.calendar.specs.declared.dates.Date.{Date}
 use Rattle.calendar.specs.Dates.{dateOf, isDate, dayNumber}
-use Rattle.profile.specs.declared.file.Found.the-variants.{At}
-use Rattle.profile.specs.File.{layoutOf, fileCheck, groupIn, tableOf}
-use Rattle.profile.specs.Inside.{valueBytes, wordsOf}
+use Rattle.profile.specs.File.{layoutOf, fileCheck}
+use Rattle.profile.specs.Inside.{wordsOf}
 use Rattle.profile.proofs.Accepted.{accepted}
-use Rattle.profile.proofs.Tables.{part-of, part-words, table-bound, table-length}
+use Rattle.group.specs.declared.Found.the-variants.{At}
+use Rattle.group.specs.Group.{groupIn, tableOf}
+use Rattle.group.specs.Inside.{valueBytes}
+use Rattle.group.proofs.Tables.{part-of, part-words, table-bound, table-length}
 use Rattle.period.specs.declared.CalendarDay.{CalendarDay}
 use Rattle.period.specs.CalendarDay.{calendarDay}
 use Rattle.period.proofs.Days.{Period, period-days}

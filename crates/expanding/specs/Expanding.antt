@@ -11,7 +11,7 @@ use Rattle.refusal.specs.declared.Verdict.the-variants.{Pass, Refused}
 use Rattle.refusal.specs.Verdict.{number, place, ask, _then_, lentAfter}
 use Rattle.calendar.specs.Dates.{dateOf}
 use Rattle.calendar.specs.Holidays.{holidaysQuestion}
-use Rattle.profile.specs.File.{check}
+use Rattle.group.specs.Group.{check}
 use Rattle.period.specs.Period.{daysOf, periodCheck}
 use Rattle.carry.specs.Carry.{figures, lastCarry, sum}
 use Rattle.carry.specs.Energy.{Quarter, powers, Each}

@@ -1,6 +1,6 @@
 // Expanding (document 01, "Series and carry" and questions 1 to 12): a period's series in the lent output.
 // The file is checked once, nothing is allocated, and nothing is copied but the group's values and one day's powers.
-use profile::file::Found;
+use group::Found;
 use refusal::Refusal;
 use refusal::Verdict;
 use series::Totals;
@@ -78,7 +78,7 @@ pub fn check_request(
 ) -> Verdict
     ensures { λ r. ⌜ r ≡ requestCheck (request (now (file .entry)) group first last (now (holidays .entry)) yearly carry []) ⌝ }
 {
-    let v = profile::group::check(file, group);
+    let v = group::check(file, group);
     let Verdict::Pass = v else {
         return v;
     };
@@ -103,7 +103,7 @@ pub fn expand(
     let Verdict::Pass = v else {
         return Expansion::Refused(v);
     };
-    let Found::At(at) = profile::group::find(file, group) else {
+    let Found::At(at) = group::find(file, group) else {
         return Expansion::Refused(Verdict::Refused(Refusal::NoGroup(0)));
     };
     let v = request_questions(first, last, holidays, yearly, carry);
@@ -117,7 +117,7 @@ pub fn expand(
     if out.len() < needed {
         return Expansion::Refused(Verdict::Refused(Refusal::ShortOutput(needed)));
     }
-    let values = profile::reading::values_at(file, at);
+    let values = group::reading::values_at(file, at);
     let made = series::expand_days(&values, group, day, days, holidays, yearly, carry, out);
     Expansion::Expanded(made)
 }

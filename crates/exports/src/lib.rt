@@ -2,12 +2,12 @@
 // length. Each has the contract of the call that it makes, by the figures of its answer.
 use enquiry::DayReport;
 use expanding::ExpansionReport;
-use profile::comparing::ComparisonReport;
-use profile::group::LocatedPart;
+use group::LocatedPart;
+use group::comparing::ComparisonReport;
 ghost use mathlib.Core.Path.{_≡_};
 ghost use lib.ListN.{length};
-ghost use Rattle.profile.specs.File.{check};
-ghost use Rattle.profile.specs.Calls.{locatedPart, readCheck, tableAfter, comparison, reportedComparison};
+ghost use Rattle.group.specs.Group.{check};
+ghost use Rattle.group.specs.Calls.{locatedPart, readCheck, tableAfter, comparison, reportedComparison};
 ghost use Rattle.writing.specs.Writing.{writeCheck, bufferAfter};
 ghost use Rattle.enquiry.specs.Enquiry.{dayEnquiry, reported as reportedDay};
 ghost use Rattle.expanding.specs.Expanding.{request, expansion, outputAfter, reported as reportedExpansion};
@@ -33,7 +33,7 @@ fn report_check(v: refusal::Verdict) -> CheckReport
 pub extern "C" fn slp_check(file: &[u8], group: u8) -> CheckReport
     ensures { λ r. ⌜ r ≡ reportedCheck (check (now (file .entry)) group) ⌝ }
 {
-    report_check(profile::group::check(file, group))
+    report_check(group::check(file, group))
 }
 
 // Where a group's value bytes stand in the file.
@@ -41,7 +41,7 @@ pub extern "C" fn slp_check(file: &[u8], group: u8) -> CheckReport
 pub extern "C" fn slp_locate(file: &[u8], group: u8) -> LocatedPart
     ensures { λ r. ⌜ r ≡ locatedPart (now (file .entry)) group ⌝ }
 {
-    profile::group::located_part(file, group)
+    group::located_part(file, group)
 }
 
 // Reads a group's values into a table.
@@ -50,7 +50,7 @@ pub extern "C" fn slp_read(file: &[u8], group: u8, table: &mut [u16]) -> CheckRe
     ensures { λ r. ⌜ r ≡ reportedCheck (readCheck (now (file .entry)) group (length (now (table .entry)))) ⌝ }
     ensures { λ r. ⌜ now (table .exit) ≡ tableAfter (now (file .entry)) group (now (table .entry)) ⌝ }
 {
-    report_check(profile::reading::read(file, group, table))
+    report_check(group::reading::read(file, group, table))
 }
 
 // Writes a profile file into a buffer.
@@ -67,7 +67,7 @@ pub extern "C" fn slp_write(codes: &[u8], values: &[u16], buffer: &mut [u8]) -> 
 pub extern "C" fn slp_compare(file: &[u8], first: u8, second: u8) -> ComparisonReport
     ensures { λ r. ⌜ r ≡ reportedComparison (comparison (now (file .entry)) first second) ⌝ }
 {
-    profile::comparing::report(profile::comparing::compare(file, first, second))
+    group::comparing::report(group::comparing::compare(file, first, second))
 }
 
 // The day enquiry.

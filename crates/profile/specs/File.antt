@@ -1,15 +1,13 @@
--- Document 01, "The profile file" and questions 1 to 6: what the bytes of a file mean, and when a file is accepted.
-use mathlib.Core.Bool.{Bool, true, false, cond, _&&_, _||_}
+-- Document 01, "The profile file" and questions 1 to 5: what the bytes of a file mean, and when a file is accepted.
+use mathlib.Core.Bool.{_&&_, _||_}
 use mathlib.Core.List.{List, [], _∷_}
 use Prim.Native.Nat.{ℕ, zero, suc, _+_, _-_, _*_}
 use lib.Dec.{leb, ltb, eqb}
 use lib.ListN.{length, getD}
-use Rattle.refusal.specs.declared.Refusal.the-variants.{NoMark, WrongVersion, WrongLength, BadCode, BadValue, NoGroup}
+use Rattle.refusal.specs.declared.Refusal.the-variants.{NoMark, WrongVersion, WrongLength, BadCode, BadValue}
 use Rattle.refusal.specs.declared.Verdict.{Verdict}
 use Rattle.refusal.specs.Verdict.{ask, _then_, askEach}
 use Rattle.profile.specs.declared.file.Layout.{Layout}
-use Rattle.profile.specs.declared.file.Found.{Found}
-use Rattle.profile.specs.declared.file.Found.the-variants.{At, Nothing}
 
 -- "All numbers in it are big-endian": the byte at a place, and the 16-bit number that begins there
 abbrev pub byteAt : List ℕ → ℕ → ℕ
@@ -88,38 +86,7 @@ fileCheck file =
     headerCheck file then codesQuestion (layoutOf file) file
     then valuesQuestion (layoutOf file) file
 
--- the offset of the group's code, among those of n profiles from `at` on
-unfoldable pub findAmong : Layout → List ℕ → ℕ → ℕ → ℕ → Found
-findAmong layout file group zero at = Nothing
-findAmong layout file group (suc n) at =
-    cond (eqb (byteAt file at) group) (At at) (findAmong layout file group n (at + profileLength layout))
-
--- where the wanted group stands in the file
-abbrev pub groupIn : List ℕ → ℕ → Found
-groupIn file group = findAmong (layoutOf file) file group (layoutOf file .count) headerLength
-
-abbrev pub isFound : Found → Bool
-isFound (At at) = true
-isFound Nothing = false
-
--- 6. "Is the wanted group in the file?", with the place that a refusal names
-unfoldable pub groupQuestion : List ℕ → ℕ → ℕ → Verdict
-groupQuestion file group place = ask (isFound (groupIn file group)) (NoGroup place)
-
--- questions 1 to 6
-abbrev pub check : List ℕ → ℕ → Verdict
-check file group = fileCheck file then groupQuestion file group 0
-
 -- n values, one after the other, from `at` on
 unfoldable pub wordsFrom : List ℕ → ℕ → ℕ → List ℕ
 wordsFrom file zero at = []
 wordsFrom file (suc n) at = wordAt file at ∷ wordsFrom file n (at + 2)
-
--- the offset of a found group's values
-abbrev pub valuesAt : Layout → Found → ℕ
-valuesAt layout (At at) = at + layout .before
-valuesAt layout Nothing = 0
-
--- a group's 864 values, where it is found
-abbrev pub tableOf : List ℕ → ℕ → List ℕ
-tableOf file group = wordsFrom file (layoutOf file .values) (valuesAt (layoutOf file) (groupIn file group))

@@ -1,11 +1,10 @@
 -- What the reader's inner functions require of a file and its layout, and their callers show. No definition of document 01.
 use mathlib.Core.Path.{_≡_}
 use mathlib.Core.List.{List}
-use Prim.Native.Nat.{ℕ, _+_, _*_, _/_, _<_, _≤_}
-use lib.ListN.{length, take, drop}
-use denote.Ref.{RefT, now}
+use Prim.Native.Nat.{ℕ, _/_, _<_, _≤_}
+use lib.ListN.{length}
 use Rattle.profile.specs.declared.file.Layout.{Layout}
-use Rattle.profile.specs.File.{headerLength, layoutOf, profileLength, fileLength, wordsFrom}
+use Rattle.profile.specs.File.{headerLength, profileLength, fileLength, wordsFrom}
 
 -- each profile has its code, and few enough bytes for those of a file to be counted in a machine number
 pub record Sound (layout : Layout) : Type 0 where
@@ -22,15 +21,6 @@ pub record CodeAt (layout : Layout) (file : List ℕ) (at : ℕ) : Type 0 where
   pub sound : Sound layout
   pub inside : at < length file
   pub earlier : (at ≡ headerLength → ⊥) → profileLength layout ≤ at
-
--- the value bytes of the profile whose code stands at `at`
-abbrev pub valueBytes : List ℕ → ℕ → List ℕ
-valueBytes file at = take (layoutOf file .values * 2) (drop (at + layoutOf file .before) file)
-
--- the same as that part of the file's own memory
-pub record ValuesOf (file : RefT (List ℕ)) (at : ℕ) (part : RefT (List ℕ)) : Type 0 where
-  pub bytes : now part ≡ valueBytes (now file) at
-  pub start : part .ptr ≡ (file .ptr .0, file .ptr .1 + (at + layoutOf (now file) .before))
 
 -- all the values of a part of a file
 abbrev pub wordsOf : List ℕ → List ℕ

@@ -1,3 +1,2 @@
 pub mod File
-pub mod Calls
 pub mod Inside

@@ -20,12 +20,6 @@ pub struct Layout {
     pub values: usize,
 }
 
-// Where a group's code stands in a file.
-pub enum Found {
-    At(usize),
-    Nothing,
-}
-
 // The 16-bit number that begins at `at`.
 pub fn word_at(file: &[u8], at: usize) -> u32
     requires { ⌜ at + 2 ≤ length (now file) ⌝ }
@@ -67,7 +61,7 @@ fn version_question(file: &[u8]) -> Verdict
 }
 
 // What the header says of the profiles.
-pub(crate) fn layout_of(file: &[u8]) -> Layout
+pub fn layout_of(file: &[u8]) -> Layout
     requires { ⌜ headerLength ≤ length (now file) ⌝ }
     ensures { λ r. ⌜ (r ≡ layoutOf (now (file .entry))) × (r .count < 256) ⌝ }
 {
@@ -79,7 +73,7 @@ pub(crate) fn layout_of(file: &[u8]) -> Layout
 }
 
 // The bytes of one profile.
-pub(crate) fn profile_length(layout: Layout) -> usize
+pub fn profile_length(layout: Layout) -> usize
     requires { ⌜ Sound layout ⌝ }
     ensures { λ r. ⌜ r ≡ profileLength layout ⌝ }
 {

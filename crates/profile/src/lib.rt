@@ -1,6 +1,2 @@
-// The profile file (document 01): checking it, locating, reading and comparing its groups.
-// Bytes are read in place: nothing is copied but a table that the caller asks for.
-pub mod comparing;
+// The profile file (document 01): its layout and numbers, and questions 1 to 5. Bytes are read in place.
 pub mod file;
-pub mod group;
-pub mod reading;

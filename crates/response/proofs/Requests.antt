@@ -9,7 +9,7 @@ use Rattle.refusal.specs.declared.Verdict.{Verdict}
 use Rattle.refusal.specs.declared.Verdict.the-variants.{Pass, Refused}
 use Rattle.refusal.proofs.Laws.{IsRefused, passed-not-refused}
 use Rattle.calendar.specs.Dates.{dateOf}
-use Rattle.profile.specs.File.{tableOf}
+use Rattle.group.specs.Group.{tableOf}
 use Rattle.period.specs.declared.CalendarDay.{CalendarDay}
 use Rattle.period.specs.CalendarDay.{calendarDay}
 use Rattle.expanding.specs.Expanding.{Request, request, daysIn, series, totals, requestCheck}

@@ -11,8 +11,9 @@ use Rattle.refusal.specs.declared.Verdict.the-variants.{Pass, Refused}
 use Rattle.refusal.specs.Verdict.{number, place, _then_}
 use Rattle.refusal.proofs.Laws.{then-next}
 use Rattle.calendar.specs.Dates.{dateOf}
-use Rattle.profile.specs.File.{layoutOf, tableOf}
-use Rattle.profile.proofs.Tables.{table-length}
+use Rattle.profile.specs.File.{layoutOf}
+use Rattle.group.specs.Group.{tableOf}
+use Rattle.group.proofs.Tables.{table-length}
 use Rattle.expanding.specs.Expanding.{Request, daysIn, totals, requestCheck}
 use Rattle.expanding.proofs.Accepted.{sound}
 use Rattle.input.specs.Input.{inputQuestion, requestIn}

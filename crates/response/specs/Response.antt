@@ -8,7 +8,7 @@ use Rattle.refusal.specs.declared.Verdict.{Verdict}
 use Rattle.refusal.specs.declared.Verdict.the-variants.{Pass, Refused}
 use Rattle.refusal.specs.Verdict.{_then_}
 use Rattle.calendar.specs.Dates.{dateOf}
-use Rattle.profile.specs.File.{tableOf}
+use Rattle.group.specs.Group.{tableOf}
 use Rattle.expanding.specs.Expanding.{Request, daysIn, totals, requestCheck}
 use Rattle.input.specs.Input.{inputQuestion, requestIn}
 use Rattle.listing.specs.Listing.{Row, rows, dayLines, lastLine, refusedLine}

@@ -1,5 +1,5 @@
 // What the program prints for an input (document 01, "The program"), made on a lent page.
-use profile::file::Found;
+use group::Found;
 use refusal::Verdict;
 ghost use mathlib.Core.Path.{_≡_};
 ghost use mathlib.Core.List.{[]};
@@ -37,10 +37,10 @@ fn put_answer(
     let Verdict::Pass = v else {
         return listing::put_refused_line(v, page, 0);
     };
-    let Found::At(at) = profile::group::find(file, group) else {
+    let Found::At(at) = group::find(file, group) else {
         return 0;
     };
-    let values = profile::reading::values_at(file, at);
+    let values = group::reading::values_at(file, at);
     let from = calendar::dates::date_of(first);
     let days = period::days_of(from, calendar::dates::date_of(last));
     let day = period::calendar_day(from);

@@ -8,7 +8,7 @@ use Rattle.calendar.specs.declared.dates.Date.{Date}
 use Rattle.calendar.specs.Dates.{nextDay}
 use Rattle.calendar.specs.Days.{valuesOfDays}
 use Rattle.period.specs.Period.{daysLater}
-use Rattle.profile.specs.File.{tableOf}
+use Rattle.group.specs.Group.{tableOf}
 use Rattle.carry.specs.Energy.{Quarter}
 use Rattle.day_powers.specs.DayQuarters.{dayQuarters}
 

@@ -14,7 +14,8 @@ use Rattle.refusal.proofs.Laws.{ask-yes, then-pass}
 use Rattle.calendar.specs.Dates.{leapDays, monthLength, isDate, daysOfMonths, dayOfYear, daysOfYears, dayNumber, weekdayOf, nextDay}
 use Rattle.calendar.specs.Days.{season, listed, dayTypeWhen, lastSunday, clock, positions}
 use Rattle.calendar.specs.Holidays.{dateQuestion, holidaysQuestion}
-use Rattle.profile.specs.File.{byteAt, layoutOf, markQuestion, versionQuestion, lengthQuestion, headerCheck, codeQuestion, valueQuestion, profileValuesQuestion, fileCheck, findAmong, groupQuestion, wordsFrom, check}
+use Rattle.profile.specs.File.{byteAt, layoutOf, markQuestion, versionQuestion, lengthQuestion, headerCheck, codeQuestion, valueQuestion, profileValuesQuestion, fileCheck, wordsFrom}
+use Rattle.group.specs.Group.{findAmong, groupQuestion, check}
 use Rattle.dynamisation.specs.Dynamisation.{X, F, Q}
 use Rattle.period.specs.Period.{daysOf, periodQuestion, periodCheck}
 use Rattle.carry.specs.Carry.{figures, lastCarry, sum}

@@ -9,7 +9,7 @@ use Rattle.period.specs.Period.{daysOf, daysLater, AllDates}
 use Rattle.period.proofs.Days.{Period, period-days, later-number}
 use Rattle.refusal.specs.declared.Verdict.{Verdict}
 use Rattle.refusal.proofs.Laws.{then-pass}
-use Rattle.profile.specs.File.{check}
+use Rattle.group.specs.Group.{check}
 use Rattle.calendar.specs.Holidays.{holidaysQuestion}
 use Rattle.expanding.specs.Expanding.{Request, totals, outputQuestion, expandCheck, answered, expansion}
 use Rattle.expanding.proofs.Accepted.{Sound, passes, request-sound}

@@ -13,7 +13,7 @@ use Rattle.calendar.specs.Dates.{dateOf, dayOfYear}
 use Rattle.calendar.proofs.DateLaws.{day-of-year-range, leap-small}
 use Rattle.period.specs.Period.{daysLater}
 use Rattle.period.proofs.Days.{period-days}
-use Rattle.profile.specs.File.{tableOf}
+use Rattle.group.specs.Group.{tableOf}
 use Rattle.carry.specs.Carry.{figures, lastCarry, sum}
 use Rattle.carry.specs.Energy.{Quarter, powers, exactSum, Rounded, Unrounded, Each, Within, householdBound, otherBound, Bounded}
 use Rattle.carry.proofs.Joining.{figures-take, figures-drop, carry-small}

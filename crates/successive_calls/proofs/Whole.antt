@@ -9,7 +9,7 @@ use Rattle.calendar.specs.Dates.{dateOf, isDate, dayNumber, nextDay}
 use Rattle.calendar.proofs.NextDay.{next-day-counts}
 use Rattle.period.specs.Period.{daysOf, daysLater}
 use Rattle.period.proofs.Days.{period-days, later-next}
-use Rattle.profile.specs.File.{tableOf}
+use Rattle.group.specs.Group.{tableOf}
 use Rattle.carry.specs.Energy.{Quarter, Each}
 use Rattle.day_powers.specs.DayQuarters.{dayQuarters}
 use Rattle.series.specs.Series.{quartersOf}

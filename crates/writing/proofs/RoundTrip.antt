@@ -14,15 +14,16 @@ use Rattle.refusal.specs.declared.Refusal.the-variants.{NoMark, WrongVersion, W
 use Rattle.refusal.specs.declared.Verdict.the-variants.{Pass}
 use Rattle.refusal.proofs.Laws.{ask-yes, then-pass}
 use Rattle.profile.specs.declared.file.Layout.{Layout}
-use Rattle.profile.specs.declared.file.Found.{Found}
-use Rattle.profile.specs.declared.file.Found.the-variants.{At}
-use Rattle.profile.specs.File.{byteAt, wordAt, layoutOf, profileLength, markQuestion, versionQuestion, lengthQuestion, headerCheck, fileCheck, groupIn, isFound, groupQuestion, wordsFrom, valuesAt}
+use Rattle.group.specs.declared.Found.{Found}
+use Rattle.group.specs.declared.Found.the-variants.{At}
+use Rattle.profile.specs.File.{byteAt, wordAt, layoutOf, profileLength, markQuestion, versionQuestion, lengthQuestion, headerCheck, fileCheck, wordsFrom}
+use Rattle.group.specs.Group.{groupIn, isFound, groupQuestion, valuesAt}
 use Rattle.writing.specs.Writing.{bytesOf, profilesOf, written, roomQuestion, writeCheck}
 use Rattle.writing.specs.RoundTrip.{Below, WrittenReadsBack, AcceptedIsRewritten, codesFrom, valuesFrom, codesOf, valuesOf}
 use Rattle.writing.proofs.Passed.{Amounts, amount-passes, Writable, writable}
 use Rattle.writing.proofs.Places.{length-written, code-at, values-at}
 use Rattle.profile.proofs.Accepted.{Accepted, accepted}
-use Rattle.profile.proofs.Codes.{finds}
+use Rattle.group.proofs.Codes.{finds}
 use Rattle.profile.proofs.Words.{length-words}
 
 -- ---- what was written reads back

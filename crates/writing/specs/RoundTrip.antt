@@ -6,7 +6,8 @@ use Prim.Native.Nat.{ℕ, zero, suc, _+_, _*_, _<_, _≤_}
 use lib.ListN.{length, take, drop, getD}
 use Rattle.refusal.specs.declared.Verdict.the-variants.{Pass}
 use Rattle.profile.specs.declared.file.Layout.{Layout}
-use Rattle.profile.specs.File.{byteAt, layoutOf, headerLength, profileLength, fileCheck, check, wordsFrom, tableOf}
+use Rattle.profile.specs.File.{byteAt, layoutOf, headerLength, profileLength, fileCheck, wordsFrom}
+use Rattle.group.specs.Group.{check, tableOf}
 use Rattle.writing.specs.Writing.{written, writeCheck}
 
 -- every element of a list is below a limit: 256 for a list of bytes

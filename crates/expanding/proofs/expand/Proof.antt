@@ -11,10 +11,11 @@ use Rattle.refusal.proofs.Laws.{stops, then-pass}
 use Rattle.calendar.specs.declared.dates.Date.{Date}
 use Rattle.calendar.specs.Dates.{dateOf, isDate, dayNumber}
 use Rattle.calendar.specs.Days.{valuesOfDays}
-use Rattle.profile.specs.declared.file.Found.the-variants.{At}
-use Rattle.profile.specs.File.{groupIn, fileCheck, tableOf}
+use Rattle.profile.specs.File.{fileCheck}
 use Rattle.profile.proofs.Accepted.{accepted}
-use Rattle.profile.proofs.Finding.{check-found, check-missing, found-inside}
+use Rattle.group.specs.declared.Found.the-variants.{At}
+use Rattle.group.specs.Group.{groupIn, tableOf}
+use Rattle.group.proofs.Finding.{check-found, check-missing, found-inside}
 use Rattle.period.specs.declared.CalendarDay.{CalendarDay}
 use Rattle.period.specs.CalendarDay.{calendarDay}
 use Rattle.period.specs.Period.{daysOf}

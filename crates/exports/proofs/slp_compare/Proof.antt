@@ -1,7 +1,7 @@
 -- `exports::slp_compare` meets its contract: the call's own contract, by the figures of its answer.
 -- Assumes nothing.
 use mathlib.Core.Path.{_∙_, ap}
-use Rattle.profile.specs.Calls.{reportedComparison}
+use Rattle.group.specs.Calls.{reportedComparison}
 use borrow.Author.Needs.{needs}
 use Rattle.exports.proofs.slp_compare.Statement.{statement}
 use Rattle.exports.proofs.slp_compare.Tie as tie

@@ -8,10 +8,11 @@ use borrow.Author.Needs.{needs}
 use Rattle.refusal.specs.declared.Verdict.the-variants.{Pass}
 use Rattle.calendar.specs.declared.dates.Date.{Date}
 use Rattle.calendar.specs.Dates.{dateOf, isDate, dayNumber}
-use Rattle.profile.specs.declared.file.Found.the-variants.{At}
-use Rattle.profile.specs.File.{groupIn, tableOf}
 use Rattle.profile.proofs.Accepted.{accepted as file-accepted}
-use Rattle.profile.proofs.Finding.{Checked, checked, found-inside}
+use Rattle.group.specs.declared.Found.{Found}
+use Rattle.group.specs.declared.Found.the-variants.{At, Nothing}
+use Rattle.group.specs.Group.{groupIn, tableOf}
+use Rattle.group.proofs.Finding.{Checked, checked, found-inside}
 use Rattle.period.specs.CalendarDay.{calendarDay}
 use Rattle.period.proofs.Days.{Period}
 use Rattle.series.specs.Loop.{RealDays}
@@ -105,13 +106,13 @@ enum-told-3 : tie.Need-enum-told-3
 enum-told-3 c = search needs
 
 -- a check that passed found the group
+found-or-not : {place : Found} {found : ℕ} → place ≡ At found → place ≡ Nothing → ⊥
+found-or-not h k = let z : _≡_ {A = ℕ} 0 1 = cc in absurd (omega arith)
+
 returns-2 : tie.Need-returns-2
 returns-2 c =
     let f = c .before .before in
-    let here = in-file (f .before) .at in
-    let there = sym (f .find .ensures) ∙ c .enum-told3 .given .1 in
-    let z : _≡_ {A = ℕ} 0 1 = cc in
-    absurd (omega arith)
+    absurd (found-or-not (in-file (f .before) .at) (sym (f .find .ensures) ∙ c .enum-told3 .given .1))
 
 values-at-requires : tie.Need-values-at-requires
 values-at-requires c κs =
