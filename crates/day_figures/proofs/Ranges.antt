@@ -2,13 +2,13 @@
 -- for its start, turn and end. And two ranges, one after the other, are the day after the clock change.
 -- Assumes nothing.
 use mathlib.Core.Path.{_≡_, refl, sym, _∙_, ap}
-use mathlib.Core.List.{List, [], _∷_, _++_, append-nil, append-assoc}
-use Prim.Native.Nat.{ℕ, suc, _+_, _-_, _*_, _^_, _/_, _%_, _≤_, _<_}
-use native.Mathlib.Nat.{add-zero}
+use mathlib.Core.List.{List, [], _++_, append-nil}
+use Prim.Native.Nat.{ℕ, _+_, _-_, _*_, _^_, _/_, _%_, _≤_, _<_}
 use native.Mathlib.Numerals.{add-one}
 use native.Mathlib.Omega.{arith}
 use lib.ListN.{length, take, drop, getD, set, length-append}
-use lib.Seq.{sets, slice, sets-eq, length-sets, length-take-le, take-all, slice-cons, slice-empty, length-slice}
+use lib.Seq.{sets, slice, length-sets, length-take-le, take-all, slice-cons, slice-empty, length-slice}
+use Rattle.refusal.proofs.Stores.{sets-append, stored}
 use Rattle.calendar.specs.declared.days.Clock.{Clock}
 use Rattle.calendar.specs.declared.days.Clock.the-variants.{Unchanged, Forward, Back}
 use Rattle.calendar.specs.Days.{positions, valuesUnder}
@@ -89,13 +89,6 @@ ranges Unchanged day h = whole 96 day h
 ranges Forward day h = parts 8 12 96 day h
 ranges Back day h = parts 12 8 96 day h
 
--- stores of one list and then of another, behind it
-pub sets-append : (out first second : List ℕ) (at : ℕ) → sets out at (first ++ second) ≡ sets (sets out at first) (at + length first) second
-sets-append out [] second at = rw (add-zero at)
-sets-append out (x ∷ first) second at =
-    let next : suc at + length first ≡ at + suc (length first) = omega arith in
-    sets-append (set out at x) first second (suc at) ∙ rw next
-
 -- two runs, the second with the carry handed on and behind the first's figures, are the run of both
 module _ (one two : List ℕ) {yearly carry : ℕ} {before middle after : List ℕ} {at n : ℕ} {first second : Carried} (full : length one ≡ n)
     (f : RangeCarried one yearly carry before at first middle) (g : RangeCarried two yearly (first .carry) middle (at + n) second after) where
@@ -111,10 +104,10 @@ module _ (one two : List ℕ) {yearly carry : ℕ} {before middle after : List �
   joined-carry : second .carry ≡ lastCarry yearly (one ++ two) carry
   joined-carry = (rw (f .carryIs) at (g .carryIs)) ∙ sym (carry-append yearly one two carry)
 
--- stores as a contract says them
-pub stored : (figs before : List ℕ) (at n : ℕ) → length figs ≡ n → at + n ≤ length before →
+-- stores of n figures as a contract says them
+pub stored-figures : (figs before : List ℕ) (at n : ℕ) → length figs ≡ n → at + n ≤ length before →
     sets before at figs ≡ take at before ++ (figs ++ drop (at + n) before)
-stored figs before at n e h = rw (← e) (sets-eq figs before at (rw e h) ∙ append-assoc (take at before) figs (drop (at + length figs) before))
+stored-figures figs before at n e h = rw (← e) (stored figs before at (rw e h))
 
 -- the day's two ranges
 module _ (powers : List ℕ) (clock : Clock) {yearly carry end begin : ℕ} {before middle : List ℕ} {at : ℕ} {first : Carried}
@@ -137,10 +130,25 @@ module _ (powers : List ℕ) (clock : Clock) {yearly carry end begin : ℕ} {bef
       let both : length (figures yearly (one ++ two) carry) ≡ valuesUnder clock =
       omega (arith, length-figures yearly (one ++ two) carry, length-append one two, length-slice begin 96 powers (omega arith)) in
       record {
-        figuresStored = rw e (joined-figures one two full f g ∙ stored (figures yearly (one ++ two) carry) before at (valuesUnder clock) both room);
+        figuresStored = rw e (joined-figures one two full f g ∙ stored-figures (figures yearly (one ++ two) carry) before at (valuesUnder clock) both room);
         totalIs = rw e (joined-total one two full f g);
         carryIs = rw e (joined-carry one two full f g);
       }
+
+-- a day without a clock change is one range
+pub unchanged : (powers : List ℕ) {clock : Clock} {yearly carry : ℕ} {before after : List ℕ} {at : ℕ} {r : Carried} → length powers ≡ 96 → clock ≡ Unchanged →
+    at + valuesUnder clock ≤ length before → RangeCarried (slice 0 96 powers) yearly carry before at r after → DayCarried powers clock yearly carry before at r after
+unfolding positions
+unchanged powers {yearly = yearly} {carry} {before} {at = at} all e room f =
+    let same : slice 0 96 powers ≡ powers = take-all 96 powers (omega arith) in
+    let g = rw same at f in
+    let count : length (figures yearly powers carry) ≡ 96 = length-figures yearly powers carry ∙ all in
+    rw e
+    (record {
+      figuresStored = g .figuresStored ∙ stored-figures (figures yearly powers carry) before at 96 count (rw e at room);
+      totalIs = g .totalIs;
+      carryIs = g .carryIs;
+    })
 
 -- the second range begins with a carry in its range too
 pub handed-on : {powers run : List ℕ} {yearly carry : ℕ} {before after : List ℕ} {at : ℕ} {r : Carried} →

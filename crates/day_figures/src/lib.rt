@@ -68,23 +68,24 @@ fn carry_range(
     }
 }
 
-// Stores the day's figures from out[at] on.
-pub fn carry_day(
-    powers: [u32; 96],
+// Stores the figures of a day with a clock change: its two ranges, one after the other.
+fn carry_changed_day(
+    powers: &[u32],
     clock: Clock,
     yearly: u32,
     carry: u32,
     out: &mut [u32],
     at: usize,
 ) -> Carried
-    requires { ⌜ SmallPowers powers yearly carry ⌝ }
+    requires { ⌜ SmallPowers (now powers) yearly carry ⌝ }
+    requires { ⌜ length (now powers) ≡ 96 ⌝ }
     requires { ⌜ at + valuesUnder clock ≤ length (now out) ⌝ }
-    ensures { λ r. ⌜ DayCarried powers clock yearly carry (now (out .entry)) at r (now (out .exit)) ⌝ }
+    ensures { λ r. ⌜ DayCarried (now (powers .entry)) clock yearly carry (now (out .entry)) at r (now (out .exit)) ⌝ }
 {
     let end = first_end(clock);
-    let first = carry_range(&powers, 0, end, yearly, carry, out, at);
+    let first = carry_range(powers, 0, end, yearly, carry, out, at);
     let second = carry_range(
-        &powers,
+        powers,
         second_start(clock),
         96,
         yearly,
@@ -97,4 +98,23 @@ pub fn carry_day(
         total: both,
         carry: second.carry,
     }
+}
+
+// Stores the day's figures from out[at] on. A day without a clock change is one range, whose length the compiler knows.
+pub fn carry_day(
+    powers: [u32; 96],
+    clock: Clock,
+    yearly: u32,
+    carry: u32,
+    out: &mut [u32],
+    at: usize,
+) -> Carried
+    requires { ⌜ SmallPowers powers yearly carry ⌝ }
+    requires { ⌜ at + valuesUnder clock ≤ length (now out) ⌝ }
+    ensures { λ r. ⌜ DayCarried powers clock yearly carry (now (out .entry)) at r (now (out .exit)) ⌝ }
+{
+    let Clock::Unchanged = clock else {
+        return carry_changed_day(&powers, clock, yearly, carry, out, at);
+    };
+    carry_range(&powers, 0, 96, yearly, carry, out, at)
 }

@@ -1,7 +1,7 @@
--- The parts of a line: how long they are, and that they make the line where they are put one behind the other. Assumes nothing.
+-- The parts of a line and how long they are. Assumes nothing.
 use mathlib.Core.Path.{_≡_}
-use mathlib.Core.List.{List, [], _∷_, _++_}
-use Prim.Native.Nat.{ℕ, zero, suc, _+_, _/_, _≤_, _<_}
+use mathlib.Core.List.{List, [], _∷_}
+use Prim.Native.Nat.{ℕ, _≤_, _<_}
 use native.Mathlib.Omega.{arith}
 use lib.ListN.{length, length-append}
 use Rattle.calendar.specs.declared.dates.Date.{Date}
@@ -10,19 +10,9 @@ use Rattle.calendar.specs.declared.days.DayType.{DayType}
 use Rattle.calendar.specs.Days.{season, dayType}
 use Rattle.enquiry.specs.Enquiry.{dayTypeFigure}
 use Rattle.series.specs.declared.Totals.{Totals}
-use Rattle.text.specs.Text.{digit, decimal, Put}
-use Rattle.text.proofs.Puts.{put-length, put-put}
-use Rattle.text.proofs.Digits.{front, decimal-short, digits-count}
+use Rattle.text.specs.Text.{digit}
+use Rattle.text.proofs.Digits.{decimal-short, decimal-most}
 use Rattle.listing.specs.Listing.{rowOf, seasonLetter, dayTypeText, dayLine, lastLine}
-
-front-most : (k n : ℕ) → length (front k n) ≤ k
-front-most zero n = omega arith
-front-most (suc k) zero = omega arith
-front-most (suc k) (suc n) = omega (arith, digits-count k (suc n), front-most k (suc n / 10))
-
--- a number has at most 20 digits
-pub decimal-most : (n : ℕ) → length (decimal n) ≤ 20
-decimal-most n = omega (arith, digits-count 19 n, front-most 19 (n / 10))
 
 -- a day type has one digit
 pub one-digit : (k : DayType) → dayTypeFigure k < 10
@@ -39,14 +29,6 @@ pub day-line-short : (holidays : List ℕ) (d : Date) (count wattHours : ℕ) �
 unfolding dayLine
 day-line-short holidays d count wattHours h =
     simp length-append (omega (arith, decimal-short count 3 (omega arith) (omega arith), decimal-most wattHours))
-
--- a text, and the rest of the line behind it
-pub behind : {first rest before middle after : List ℕ} {at r s : ℕ} → Put first before at r middle →
-    (r + length rest ≤ length middle → Put rest middle r s after) → at + length (first ++ rest) ≤ length before → Put (first ++ rest) before at s after
-behind {first} {rest} p q room =
-    let both = length-append first rest in
-    let kept = put-length p (omega arith) in
-    put-put p (q (omega (arith, p .behind))) (omega arith)
 
 -- and the last line at most 90
 pub last-line-short : (days : ℕ) (t : Totals) → length (lastLine days t) ≤ 90

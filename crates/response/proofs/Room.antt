@@ -18,7 +18,8 @@ use Rattle.expanding.specs.Expanding.{Request, daysIn, totals, requestCheck}
 use Rattle.expanding.proofs.Accepted.{sound}
 use Rattle.input.specs.Input.{inputQuestion, requestIn}
 use Rattle.listing.specs.Listing.{dayLines, lastLine, refusedLine}
-use Rattle.listing.proofs.Fields.{decimal-most, last-line-short}
+use Rattle.text.proofs.Digits.{decimal-most}
+use Rattle.listing.proofs.Fields.{last-line-short}
 use Rattle.listing.proofs.Rows.{lines-short}
 use Rattle.response.specs.declared.Response.{Response}
 use Rattle.response.specs.declared.Response.the-variants.{Written, NoRoom}

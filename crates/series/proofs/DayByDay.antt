@@ -9,6 +9,7 @@ use native.Mathlib.Nat.{zero-add, mul-le-mul}
 use native.Mathlib.Omega.{arith}
 use lib.ListN.{length, getD, length-append, length-map}
 use lib.Seq.{sets, sets-eq, length-sets}
+use Rattle.refusal.proofs.Stores.{sets-append}
 use Rattle.calendar.specs.declared.dates.Date.{Date}
 use Rattle.calendar.specs.Dates.{isDate, nextDay}
 use Rattle.calendar.specs.Days.{clock}
@@ -23,7 +24,6 @@ use Rattle.day_powers.specs.DayQuarters.{dayQuarters}
 use Rattle.day_powers.proofs.EachLaws.{each-append, each-position}
 use Rattle.day_powers.proofs.Quarters.{day-powers-positions}
 use Rattle.series.specs.declared.Totals.{Totals}
-use Rattle.day_figures.proofs.Ranges.{sets-append}
 use Rattle.series.specs.Series.{quartersOfDays}
 use Rattle.series.specs.Loop.{GroupValues, InRange, RealDay, RealDays, Room, Added, Filled}
 use Rattle.series.proofs.SeriesLaws.{quarters-none, quarters-next, length-quarters}

@@ -25,7 +25,7 @@ use Rattle.day_powers.specs.DayQuarters.{powersBy, dayQuarters}
 use Rattle.day_powers.proofs.Quarters.{powers-small, length-day-quarters, day-powers-positions}
 use Rattle.day_figures.specs.declared.Carried.{Carried}
 use Rattle.day_figures.specs.Day.{SmallPowers, DayCarried}
-use Rattle.day_figures.proofs.Ranges.{stored}
+use Rattle.day_figures.proofs.Ranges.{stored-figures}
 use Rattle.series.specs.declared.Totals.{Totals}
 use Rattle.series.specs.Loop.{GroupValues, InRange, RealDay, Room, Added}
 
@@ -92,7 +92,7 @@ module _ {values : List ℕ} (sound : GroupValues values) (group : ℕ) (holiday
           let entries = room .entries in
           let figs = figures yearly (dayPowers values group holidays d) (before .carry) in
           record {
-            stored = (rw changed at (did .figuresStored)) ∙ sym (stored figs out (before .count) _ (length-figures yearly _ (before .carry) ∙ n) (omega arith));
+            stored = (rw changed at (did .figuresStored)) ∙ sym (stored-figures figs out (before .count) _ (length-figures yearly _ (before .carry) ∙ n) (omega arith));
             count = omega arith;
             total = omega (arith, rw changed at (did .totalIs));
             carry = rw changed at (did .carryIs);

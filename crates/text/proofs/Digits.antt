@@ -74,3 +74,12 @@ front-all (suc k) (suc n) = one-more k (suc n) (front-all k (suc n / 10))
 
 pub decimal-all : (n : ℕ) → decimal n ≡ lastDigits (length (decimal n)) n
 decimal-all n = one-more 19 n (front-all 19 (n / 10))
+
+-- any number has at most 20 digits: `decimal` writes no more
+front-most : (k n : ℕ) → length (front k n) ≤ k
+front-most zero n = omega arith
+front-most (suc k) zero = omega arith
+front-most (suc k) (suc n) = omega (arith, digits-count k (suc n), front-most k (suc n / 10))
+
+pub decimal-most : (n : ℕ) → length (decimal n) ≤ 20
+decimal-most n = omega (arith, digits-count 19 n, front-most 19 (n / 10))

@@ -1,32 +1,21 @@
 -- A text put behind another is the two put as one. Where the page has room, a text is put by its stores.
 -- Assumes nothing.
 use mathlib.Core.Path.{_≡_, sym, _∙_, ap}
-use mathlib.Core.List.{List, [], _∷_, _++_, append-assoc}
-use Prim.Native.Nat.{ℕ, suc, _+_, _≤_}
-use native.Mathlib.Nat.{add-zero}
+use mathlib.Core.List.{List, _++_}
+use Prim.Native.Nat.{ℕ, _+_, _≤_}
 use native.Mathlib.Omega.{arith}
-use lib.ListN.{length, take, drop, set, length-append}
-use lib.Seq.{sets, sets-eq, length-sets}
+use lib.ListN.{length, length-append}
+use lib.Seq.{sets, length-sets}
+use Rattle.refusal.proofs.Stores.{sets-append, stored}
 use Rattle.text.specs.Text.{Put}
-
--- stores of one text and then of another, behind it
-pub sets-append : (page first second : List ℕ) (at : ℕ) → sets page at (first ++ second) ≡ sets (sets page at first) (at + length first) second
-sets-append page [] second at = rw (add-zero at)
-sets-append page (x ∷ first) second at =
-    let next : suc at + length first ≡ at + suc (length first) = omega arith in
-    sets-append (set page at x) first second (suc at) ∙ rw next
-
-stores : (text before : List ℕ) (at : ℕ) → at + length text ≤ length before →
-    sets before at text ≡ take at before ++ (text ++ drop (at + length text) before)
-stores text before at room = sets-eq text before at room ∙ append-assoc (take at before) text (drop (at + length text) before)
 
 module _ {text before after : List ℕ} {at r : ℕ} (room : at + length text ≤ length before) where
   -- stores put a text, and a text is put by its stores
   pub put-sets : after ≡ sets before at text → r ≡ at + length text → Put text before at r after
-  put-sets e b = record { page = e ∙ stores text before at room; behind = b }
+  put-sets e b = record { page = e ∙ stored text before at room; behind = b }
 
   pub sets-put : Put text before at r after → after ≡ sets before at text
-  sets-put p = p .page ∙ sym (stores text before at room)
+  sets-put p = p .page ∙ sym (stored text before at room)
 
 pub put-length : {text before after : List ℕ} {at r : ℕ} → Put text before at r after → at + length text ≤ length before →
     length after ≡ length before
@@ -39,6 +28,14 @@ put-put {first} {second} {before} {middle} {after} {at} {r} {s} p q room =
     let both = length-append first second in
     let own : at + length first ≤ length before = omega arith in
     let kept = put-length p own in
-    let stored : after ≡ sets (sets before at first) (at + length first) second =
+    let both-stored : after ≡ sets (sets before at first) (at + length first) second =
     rw (← p .behind, ← sets-put own p) (sets-put (omega arith) q) in
-    put-sets (omega arith) (stored ∙ sym (sets-append before first second at)) (omega arith)
+    put-sets (omega arith) (both-stored ∙ sym (sets-append before first second at)) (omega arith)
+
+-- a text, and the rest of the line behind it
+pub behind : {first rest before middle after : List ℕ} {at r s : ℕ} → Put first before at r middle →
+    (r + length rest ≤ length middle → Put rest middle r s after) → at + length (first ++ rest) ≤ length before → Put (first ++ rest) before at s after
+behind {first} {rest} p q room =
+    let both = length-append first rest in
+    let kept = put-length p (omega arith) in
+    put-put p (q (omega (arith, p .behind))) (omega arith)

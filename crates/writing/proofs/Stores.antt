@@ -8,17 +8,10 @@ use native.Mathlib.Numerals.{add-one}
 use native.Mathlib.Omega.{arith}
 use lib.ListN.{length, take, drop, getD, set, length-drop, drop-of-length-le}
 use lib.Seq.{sets, sets-eq, drop-cons, drop-drop, length-take-le}
+use Rattle.refusal.proofs.Stores.{sets-append}
 use Rattle.profile.specs.File.{mark}
 use Rattle.writing.specs.Writing.{bytesOf, profilesOf, written}
 use Rattle.writing.proofs.Places.{length-bytes, part-of}
-
--- stores of one list and then of another, behind it
-sets-append : (buffer first second : List ℕ) (at : ℕ) →
-    sets buffer at (first ++ second) ≡ sets (sets buffer at first) (at + length first) second
-sets-append buffer [] second at = rw (add-zero at)
-sets-append buffer (b ∷ first) second at =
-    let next : suc at + length first ≡ at + suc (length first) = omega arith in
-    sets-append (set buffer at b) first second (suc at) ∙ rw next
 
 -- a turn stores value i, and the last turn leaves nothing to store
 pub value-stored : (values buffer : List ℕ) {after : List ℕ} (i at : ℕ) → i < length values →

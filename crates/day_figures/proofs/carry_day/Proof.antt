@@ -1,71 +1,56 @@
--- `day_figures::carry_day` meets its contract: its two ranges, joined, are the day after the clock change (proofs/Ranges.antt).
--- Assumes nothing.
+-- `day_figures::carry_day` meets its contract: without a clock change the day is one range (proofs/Ranges.antt). Assumes nothing.
+use mathlib.Core.Path.{ap}
 use native.Mathlib.Omega.{arith}
 use borrow.Author.Needs.{needs}
-use Rattle.day_figures.proofs.Ranges.{cut, second-in-day, day, handed-on}
+use Rattle.calendar.specs.Days.{valuesUnder}
+use Rattle.day_figures.proofs.Ranges.{unchanged}
 use Rattle.day_figures.proofs.carry_day.Statement.{statement}
 use Rattle.day_figures.proofs.carry_day.Tie as tie
 
-first-end-requires : tie.Need-first-end-requires
-first-end-requires c κs = search needs
+enum-told : tie.Need-enum-told
+enum-told c = search needs
+
+slice-aggregate-carry-changed-day : tie.Need-slice-aggregate-carry-changed-day
+slice-aggregate-carry-changed-day c = search needs
+
+carry-changed-day-requires : tie.Need-carry-changed-day-requires
+carry-changed-day-requires c κs = search needs
+
+same-length : tie.Need-same-length
+same-length c = search needs
+
+returns : tie.Need-returns
+returns c = search needs
 
 slice-aggregate-carry-range : tie.Need-slice-aggregate-carry-range
 slice-aggregate-carry-range c = search needs
 
 carry-range-requires : tie.Need-carry-range-requires
 carry-range-requires c κs =
-    let start = c .before .before .before .before in
-    let s = cut (start .args .clock) in
-    (start .pre .0, record { ordered = omega arith; within = omega arith; whole = omega arith; room = omega arith })
+    let told = c .before .before in
+    let start = told .before .before .before in
+    let values = ap valuesUnder (told .enum-told .given .1) in
+    (start .pre .0, record { ordered = omega arith; within = omega arith; whole = omega arith; room = omega (arith, values, start .pre .1) })
 
-slice-aggregate-carry-range-2 : tie.Need-slice-aggregate-carry-range-2
-slice-aggregate-carry-range-2 c = search needs
+same-length-2 : tie.Need-same-length-2
+same-length-2 c = search needs
 
-second-start-requires : tie.Need-second-start-requires
-second-start-requires c κs = search needs
-
-add-carry-range : tie.Need-add-carry-range
-add-carry-range c =
-    let start = c .before .before .before .before .before .before .before .before .before .before in
-    let s = cut (start .args .clock) in
-    omega arith
-
-carry-range-requires-2 : tie.Need-carry-range-requires-2
-carry-range-requires-2 c κs =
-    let called = c .before .before .before .before .before in
-    let asked = called .before .before .before .first-end in
-    let start = called .before .before .before .before .before in
-    let first = called .carry-range .ensures in (
-      handed-on (start .pre .0) first,
-      second-in-day _ (start .args .clock) (omega arith) (asked .ensures) (c .before .second-start .ensures) (start .pre .1) first,
-    )
-
-add-both : tie.Need-add-both
-add-both c = omega arith
-
-same-length : tie.Need-same-length
-same-length c = search needs
-
-returns : tie.Need-returns
-returns c =
-    let again = c .before .before .before .before in
-    let called = again .before .before .before .before .before .before in
-    let start = called .before .before .before .before .before in
-    let end = called .before .before .before .first-end .ensures in
-    let begin = again .before .before .second-start .ensures in
-    day _ (start .args .clock) (omega arith) end begin (start .pre .1) (called .carry-range .ensures) (again .carry-range2 .ensures)
+returns-2 : tie.Need-returns-2
+returns-2 c =
+    let told = c .before .before .before .before .before in
+    let start = told .before .before .before in
+    unchanged _ (omega arith) (told .enum-told .given .1) (start .pre .1) (c .before .before .carry-range .ensures)
 
 pub carry-day-spec : {M : Type 1} → statement M
 carry-day-spec =
     tie.close
     (tie.spec
-    first-end-requires
+    enum-told
+    slice-aggregate-carry-changed-day
+    carry-changed-day-requires
+    same-length
+    returns
     slice-aggregate-carry-range
     carry-range-requires
-    slice-aggregate-carry-range-2
-    second-start-requires
-    add-carry-range
-    carry-range-requires-2
-    add-both
-    same-length
-    returns)
+    same-length-2
+    returns-2)

@@ -4,7 +4,8 @@ use borrow.Author.Needs.{needs}
 use lib.ListN.{length-append}
 use Rattle.text.proofs.Digits.{decimal-short}
 use Rattle.listing.specs.Listing.{dayLine}
-use Rattle.listing.proofs.Fields.{decimal-most, behind}
+use Rattle.text.proofs.Digits.{decimal-most}
+use Rattle.text.proofs.Puts.{behind}
 use Rattle.listing.proofs.put_day_line.Statement.{statement}
 use Rattle.listing.proofs.put_day_line.Tie as tie
 

@@ -3,7 +3,8 @@ use native.Mathlib.Omega.{arith}
 use borrow.Author.Needs.{needs}
 use lib.ListN.{length-append}
 use Rattle.listing.specs.Listing.{refusedLine}
-use Rattle.listing.proofs.Fields.{decimal-most, behind}
+use Rattle.text.proofs.Digits.{decimal-most}
+use Rattle.text.proofs.Puts.{behind}
 use Rattle.listing.proofs.put_refused_line.Statement.{statement}
 use Rattle.listing.proofs.put_refused_line.Tie as tie
 

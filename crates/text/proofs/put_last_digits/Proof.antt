@@ -8,7 +8,8 @@ use lib.ListN.{length, set, length-set, length-append}
 use lib.Seq.{sets, set-comm}
 use Rattle.text.specs.Text.{digit}
 use Rattle.text.specs.Last.{lastDigits}
-use Rattle.text.proofs.Puts.{sets-append, put-sets}
+use Rattle.refusal.proofs.Stores.{sets-append}
+use Rattle.text.proofs.Puts.{put-sets}
 use Rattle.text.proofs.put_last_digits.Statement.{statement}
 use Rattle.text.proofs.put_last_digits.Tie as tie
 
