@@ -1,19 +1,18 @@
 -- "A figure fits 32 bits, a total 64.": no power is above 40,000, so no figure is above the yearly use by more than the carry.
 -- Assumes nothing.
-use mathlib.Core.Path.{_≡_, refl}
+use mathlib.Core.Path.{refl}
 use mathlib.Core.List.{List, [], _∷_}
-use Prim.Native.Nat.{ℕ, _+_, _*_, _/_, _%_, _^_, _≤_, _<_}
+use Prim.Native.Nat.{ℕ, _+_, _*_, _%_, _^_, _≤_, _<_}
 use native.Mathlib.Nat.{mul-le-mul}
 use native.Mathlib.Omega.{arith}
 use Rattle.calendar.specs.Dates.{dateOf}
 use Rattle.group.proofs.Finding.{checked}
 use Rattle.period.specs.CalendarDay.{calendarDay}
-use Rattle.carry.specs.Carry.{figures, sum}
+use Rattle.carry.specs.Carry.{figures}
 use Rattle.carry.specs.Energy.{Each, powers}
-use Rattle.series.specs.Loop.{InRange}
 use Rattle.series.proofs.DayByDay.{Small, all-small, whole-fits}
-use Rattle.expanding.specs.Expanding.{Request, daysIn, quarters, series, requestCheck, FiguresFit}
-use Rattle.expanding.proofs.Accepted.{Sound, sound}
+use Rattle.expanding.specs.Expanding.{daysIn, quarters, series, FiguresFit}
+use Rattle.expanding.proofs.Accepted.{sound}
 use Rattle.expanding.proofs.Given.{table-values, real-days}
 
 -- small powers make small figures

@@ -1,4 +1,4 @@
--- Document 01, "The profile file": what the calls of reading answer and leave in the lent memory, accepted and refused.
+-- Document 01, "The profile file": what locating, reading and comparing answer and leave in the lent memory, accepted and refused.
 use mathlib.Core.Path.{_≡_}
 use mathlib.Core.Bool.{Bool, true, false, cond, _&&_}
 use mathlib.Core.List.{List, [], _∷_}

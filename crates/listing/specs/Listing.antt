@@ -10,6 +10,7 @@ use Rattle.calendar.specs.declared.days.Season.{Season}
 use Rattle.calendar.specs.Dates.{nextDay}
 use Rattle.calendar.specs.Days.{season, dayType}
 use Rattle.enquiry.specs.Enquiry.{dayTypeFigure}
+use Rattle.period.specs.Period.{daysLater}
 use Rattle.carry.specs.Carry.{figures, lastCarry, sum}
 use Rattle.carry.specs.Energy.{powers}
 use Rattle.series.specs.declared.Totals.{Totals}
@@ -77,9 +78,19 @@ lastLine days t =
 unfoldable pub refusedLine : Verdict → List ℕ
 refusedLine v = refusedWord ++ (field (number v) ++ (field (place v) ++ (lineFeed ∷ [])))
 
--- the theorem: the day lines' counts and Wh add up to the period's, for any group, days and carry. Proved in proofs/Rows.antt.
+-- Two theorems, for any group, days and carry. Proved in proofs/Rows.antt.
+
+-- the rows' counts and Wh add up to the period's
 unfoldable pub RowsAddUp : Type 0
 RowsAddUp =
     (values : List ℕ) (group : ℕ) (holidays : List ℕ) (yearly n : ℕ) (d : Date) (carry : ℕ) →
     (sum (map (λ row. row .count) (rows values group holidays yearly n d carry)) ≡ length (quartersOfDays (dayQuarters values group holidays) n d))
     × (sum (map (λ row. row .wattHours) (rows values group holidays yearly n d carry)) ≡ sum (figures yearly (powers (quartersOfDays (dayQuarters values group holidays) n d)) carry))
+
+-- the rows of n + m days are those of the first n, and those of the m after them, begun with the carry that the first n leave
+unfoldable pub RowsJoin : Type 0
+RowsJoin =
+    (values : List ℕ) (group : ℕ) (holidays : List ℕ) (yearly n m : ℕ) (d : Date) (carry : ℕ) →
+    rows values group holidays yearly (n + m) d carry
+    ≡ rows values group holidays yearly n d carry
+    ++ rows values group holidays yearly m (daysLater n d) (lastCarry yearly (powers (quartersOfDays (dayQuarters values group holidays) n d)) carry)

@@ -1,7 +1,7 @@
 -- A place in a list that is in order: the dates rise, so a date is listed just where its place has it. And what is passed on one
 -- day is passed on a later one. By induction over the list.
 -- Assumes nothing.
-use mathlib.Core.Path.{_≡_, refl, sym, _∙_}
+use mathlib.Core.Path.{_≡_, refl, sym}
 use mathlib.Core.Bool.{Bool, true, false, _&&_, _||_}
 use mathlib.Core.List.{List, [], _∷_}
 use Prim.Native.Nat.{ℕ, zero, suc, _+_, _-_, _*_, _≤_, _<_}
@@ -74,7 +74,7 @@ module _ (holidays : List ℕ) (inOrder : holidaysQuestion holidays ≡ Pass) wh
           where
             side : (a : Bool) → ltb i at ≡ a → (b : Bool) → ltb at i ≡ b → ⊥
             side true a b f = omega (arith, r .passed .earlier i (ltb-true i at a))
-            side false a true f = omega (arith, r .notBefore h, behind i (ltb-true at i f) l)
+            side false a true f = omega (arith, r .notEarlier h, behind i (ltb-true at i f) l)
             side false a false f =
                 let same : at ≡ i = omega (arith, ltb-false i at a, ltb-false at i f) in
                 ne (rw same e)

@@ -3,7 +3,7 @@ use mathlib.Core.List.{List}
 use Prim.Native.Nat.{ℕ, _≤_, _<_}
 use lib.ListN.{length, getD}
 
--- every entry in front of the place is before the date
+-- every entry in front of the place is earlier than the date
 pub record Passed (holidays : List ℕ) (at date : ℕ) : Type 0 where
   pub inside : at ≤ length holidays
   pub earlier : (i : ℕ) → i < at → getD holidays i 0 < date
@@ -11,4 +11,4 @@ pub record Passed (holidays : List ℕ) (at date : ℕ) : Type 0 where
 -- and the entry there, if there is one, is not
 pub record Reached (holidays : List ℕ) (at date : ℕ) : Type 0 where
   pub passed : Passed holidays at date
-  pub notBefore : at < length holidays → date ≤ getD holidays at 0
+  pub notEarlier : at < length holidays → date ≤ getD holidays at 0

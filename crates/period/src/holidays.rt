@@ -1,13 +1,13 @@
-// The list of holidays walked along with a period's days: a place in it is handed from day to day, so no day looks through the
-// whole list.
+// The list of holidays walked along with the days of a call: a place in it is handed from day to day, so that no day looks
+// through the whole list.
 ghost use mathlib.Core.Path.{_≡_};
 ghost use Rattle.refusal.specs.declared.Verdict.the-variants.{Pass};
 ghost use Rattle.calendar.specs.Days.{listed};
 ghost use Rattle.calendar.specs.Holidays.{holidaysQuestion};
 ghost use Rattle.period.specs.HolidayPlace.{Passed, Reached};
 
-// The place of the first entry that is not before the date; no entry before `from` is.
-pub fn place_of(holidays: &[u32], from: usize, date: u32) -> usize
+// The place of the first entry that is not earlier than the date. The entries in front of `from` are all earlier.
+pub fn next_entry(holidays: &[u32], from: usize, date: u32) -> usize
     requires { ⌜ Passed (now holidays) from date ⌝ }
     ensures { λ r. ⌜ Reached (now (holidays .entry)) r date ⌝ }
 {

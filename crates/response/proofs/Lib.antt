@@ -1,3 +1,4 @@
 pub mod Requests
 pub mod Pages
 pub mod Room
+pub mod AsExpanded

@@ -22,10 +22,10 @@ use Rattle.input.specs.Input.{longsFrom, headLength, listLength, fileStart, req
 use Rattle.input.specs.Parts.{askedEntries, headOf}
 use Rattle.input.proofs.Entries.{asked-alike, asked-list, whole-list}
 use Rattle.listing.specs.declared.Lines.{Lines}
-use Rattle.listing.specs.Listing.{lastLine, refusedLine}
+use Rattle.listing.specs.Listing.{dayLines, lastLine, refusedLine}
 use Rattle.listing.specs.Pages.{Listed}
 use Rattle.listing.proofs.Fields.{last-line-short}
-use Rattle.response.specs.Response.{linesFor, linesOf, pageLength}
+use Rattle.response.specs.Response.{rowsOf, linesFor, linesOf, pageLength}
 
 -- a refusal
 pub refused : (q : Request) {v w : Verdict} {before after : List ℕ} {r : ℕ} → v ≡ w → IsRefused v → Put (refusedLine v) before 0 r after → Put (linesFor w q) before 0 r after
@@ -48,10 +48,11 @@ module _ (q : Request) (passed : requestCheck q ≡ Pass) (none : q .carry ≡ 0
       Listed values (q .group) (q .holidays) (q .yearly) days (day .date) before r middle →
       Put (lastLine days (r .totals)) middle (r .at) s after → pageLength ≤ length before → Put (linesOf q) before 0 s after
   unfolding linesFor
-  accepted v e f l last room =
+  accepted {before = before} {middle} {r = r} v e f l last room =
       let lines = rw (v, e, f) at l in
+      let days : Put (dayLines (q .holidays) (rowsOf q)) before 0 (r .at) middle = rw none (lines .lines) in
       let few = sound q passed .period .short in
-      rw passed (put-put (lines .lines) (rw (f, sums lines) at last) (omega (arith, last-line-short (daysIn q) (totals q))))
+      rw passed (put-put days (rw (f, sums lines) at last) (omega (arith, last-line-short (daysIn q) (totals q))))
 
 -- the request of an input, its list cut behind the entries that question 9 can ask about
 module _ (input : List ℕ) where

@@ -33,7 +33,7 @@ lines-room : (q : Request) (v : Verdict) → (v ≡ Pass → requestCheck q ≡ 
 unfolding linesFor refusedLine
 lines-room q Pass h =
     let days = sound q (h refl) .period .short in
-    let lines = lines-short (tableOf (q .file) (q .group)) (q .group) (q .holidays) (q .yearly) (daysIn q) (dateOf (q .first)) 0 (values-of-table q) in
+    let lines = lines-short (tableOf (q .file) (q .group)) (q .group) (q .holidays) (q .yearly) (daysIn q) (dateOf (q .first)) (q .carry) (values-of-table q) in
     omega (arith, lines, days, last-line-short (daysIn q) (totals q), length-append (dayLines (q .holidays) (rowsOf q)) (lastLine (daysIn q) (totals q)))
 lines-room q (Refused r) h = simp length-append (omega (arith, decimal-most (number (Refused r)), decimal-most (place (Refused r))))
 

@@ -1,6 +1,7 @@
 -- Document 01, "The program": what it prints for an input, every byte of it.
+use mathlib.Core.Path.{_≡_}
 use mathlib.Core.Bool.{cond}
-use mathlib.Core.List.{List, _++_}
+use mathlib.Core.List.{List, [], _∷_, _++_, map}
 use Prim.Native.Nat.{ℕ, _≤_}
 use lib.Dec.{leb}
 use lib.ListN.{length, drop}
@@ -9,15 +10,17 @@ use Rattle.refusal.specs.declared.Verdict.the-variants.{Pass, Refused}
 use Rattle.refusal.specs.Verdict.{_then_}
 use Rattle.calendar.specs.Dates.{dateOf}
 use Rattle.group.specs.Group.{tableOf}
-use Rattle.expanding.specs.Expanding.{Request, daysIn, totals, requestCheck}
+use Rattle.carry.specs.Carry.{sum}
+use Rattle.expanding.specs.declared.Expansion.the-variants.{Expanded}
+use Rattle.expanding.specs.Expanding.{Request, daysIn, series, totals, requestCheck, expansion}
 use Rattle.input.specs.Input.{inputQuestion, requestIn}
-use Rattle.listing.specs.Listing.{Row, rows, dayLines, lastLine, refusedLine}
+use Rattle.listing.specs.Listing.{Row, rowOf, rows, dayLines, lastLine, refusedLine}
 use Rattle.response.specs.declared.Response.{Response}
 use Rattle.response.specs.declared.Response.the-variants.{Written, NoRoom}
 
--- "Then it expands day by day from carry 0": a request's rows
+-- "Then it expands day by day": a request's rows; "from carry 0", which an input's request has
 abbrev pub rowsOf : Request → List Row
-rowsOf q = rows (tableOf (q .file) (q .group)) (q .group) (q .holidays) (q .yearly) (daysIn q) (dateOf (q .first)) 0
+rowsOf q = rows (tableOf (q .file) (q .group)) (q .group) (q .holidays) (q .yearly) (daysIn q) (dateOf (q .first)) (q .carry)
 
 -- "The whole request is checked before the first line.": the lines of an accepted request, and the line of a refusal
 unfoldable pub linesFor : Verdict → Request → List ℕ
@@ -32,7 +35,21 @@ linesOf q = linesFor (requestCheck q) q
 unfoldable pub printed : List ℕ → List ℕ
 printed input = linesFor (inputQuestion input then requestCheck (requestIn input)) (requestIn input)
 
--- the room that is enough for every input: 1,461 days at the largest figures have lines of fewer than 57,100 bytes
+-- the theorem: the lines of a request say what expanding answers. Proved in proofs/AsExpanded.antt.
+pub record AsExpanded (q : Request) : Type 0 where
+  -- the day lines add up to the last line
+  pub days : length (rowsOf q) ≡ daysIn q
+  pub counts : sum (map (λ row. row .count) (rowsOf q)) ≡ totals q .count
+  pub wattHours : sum (map (λ row. row .wattHours) (rowsOf q)) ≡ totals q .total
+  -- the last line is what one call for the whole period answers
+  pub whole : requestCheck q ≡ Pass → length (series q) ≤ length (q .output) → expansion q ≡ Expanded (totals q)
+  -- a day's line is what a call for that day answers; `RowsJoin` hands the carry from day to day
+  pub day : daysIn q ≡ 1 → rowsOf q ≡ rowOf (dateOf (q .first)) (totals q .count) (totals q .total) ∷ []
+
+unfoldable pub LinesAsExpanded : Type 0
+LinesAsExpanded = (q : Request) → AsExpanded q
+
+-- the room that is enough for every input, by our own choice: 1,461 days at the largest figures have lines of fewer than 57,100 bytes
 abbrev pub pageLength : ℕ
 pageLength = 65_536
 

@@ -99,7 +99,7 @@ pub fn expand_days(
     };
     let mut place: usize = 0;
     while 0 < left {
-        place = period::holidays::place_of(holidays, place, calendar::dates::number_of(day.date));
+        place = period::holidays::next_entry(holidays, place, calendar::dates::number_of(day.date));
         so_far = expand_day(values, group, day, holidays, place, yearly, so_far, out);
         day = period::day_after(day);
         left -= 1;

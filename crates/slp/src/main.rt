@@ -1,5 +1,6 @@
 // The program (document 01, "The program"): reads a request from standard input and prints its lines. What it prints is made and
-// proved by the crate `response`; here is only reading and writing.
+// proved by the crate `response`; here is only reading and writing. A Rattle program has no exit status: a read or a write that
+// fails is said on standard error.
 use libc::STDERR_FILENO;
 use libc::STDIN_FILENO;
 use libc::STDOUT_FILENO;
@@ -12,8 +13,23 @@ fn main() {
     // one byte more than an input may have, so that a longer one is told from the longest
     let mut input = [0u8; 65_537];
     let count = io::read_full(STDIN_FILENO, &mut input);
+    if count < 65_537 {
+        if !at_end() {
+            io::write_all(
+                STDERR_FILENO,
+                b"slp: the input could not be read to its end\n",
+            );
+            return;
+        }
+    }
     let mut page = [0u8; response::PAGE_LENGTH];
     print(&input, count, &mut page);
+}
+
+// Whether the input is over. A read that fails ends `read_full` too: then another read fails again, or finds more.
+fn at_end() -> bool {
+    let mut more = [0u8; 1];
+    libc::read(STDIN_FILENO, &mut more) == 0
 }
 
 // Prints the response to the input's first bytes.
@@ -23,8 +39,7 @@ fn print(input: &[u8], count: usize, page: &mut [u8])
 {
     let answer = response::respond(&input[0..count], page);
     let Response::Written(written) = answer else {
-        // no page of that length is too short
-        return;
+        return; // not reached: that page is long enough
     };
     if !io::write_all(STDOUT_FILENO, &page[0..written]) {
         io::write_all(STDERR_FILENO, b"slp: the output could not be written\n");

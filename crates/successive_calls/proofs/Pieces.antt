@@ -1,7 +1,7 @@
 -- A piece of an accepted period passes every question but the last. Assumes nothing.
 use mathlib.Core.Path.{_≡_, _∙_, ap}
 use mathlib.Core.Bool.{true}
-use Prim.Native.Nat.{ℕ, _+_, _-_, _≤_, _<_}
+use Prim.Native.Nat.{ℕ, _+_, _≤_, _<_}
 use native.Mathlib.Omega.{arith}
 use Rattle.calendar.specs.declared.dates.Date.{Date}
 use Rattle.calendar.specs.Dates.{dateOf, dayNumber}

@@ -21,12 +21,12 @@ lineFeed = 10
 abbrev pub digit : ℕ → ℕ
 digit n = 48 + n
 
--- "in decimal with no leading zeros", in at most some places
+-- "in decimal with no leading zeros": the last digits of a number, at most so many; what stands in front of them is left out
 unfoldable pub digits : ℕ → ℕ → List ℕ
 digits zero n = []
 digits (suc places) n = cond (ltb n 10) (digit n ∷ []) (digits places (n / 10) ++ (digit (n % 10) ∷ []))
 
--- 20 places hold every 64-bit number
+-- 20 places hold every 64-bit number, and no number that is printed is larger
 abbrev pub decimal : ℕ → List ℕ
 decimal n = digits 20 n
 

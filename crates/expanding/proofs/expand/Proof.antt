@@ -4,12 +4,11 @@ use mathlib.Core.Path.{_≡_, refl, sym, _∙_, ap}
 use Prim.Native.Nat.{ℕ, _≤_}
 use native.Mathlib.Omega.{arith}
 use lib.ListN.{length}
-use mathlib.Core.Bool.{true}
 use borrow.Author.Needs.{needs}
 use Rattle.refusal.specs.declared.Verdict.the-variants.{Pass}
 use Rattle.refusal.proofs.Laws.{stops, then-pass}
 use Rattle.calendar.specs.declared.dates.Date.{Date}
-use Rattle.calendar.specs.Dates.{dateOf, isDate, dayNumber}
+use Rattle.calendar.specs.Dates.{dateOf, isDate}
 use Rattle.calendar.specs.Days.{valuesOfDays}
 use Rattle.profile.specs.File.{fileCheck}
 use Rattle.profile.proofs.Accepted.{accepted}
@@ -19,7 +18,6 @@ use Rattle.group.proofs.Finding.{check-found, check-missing, found-inside}
 use Rattle.period.specs.declared.CalendarDay.{CalendarDay}
 use Rattle.period.specs.CalendarDay.{calendarDay}
 use Rattle.period.specs.Period.{daysOf}
-use Rattle.period.proofs.Days.{Period}
 use Rattle.day_powers.specs.DayQuarters.{dayQuarters}
 use Rattle.series.specs.Series.{quartersOfDays}
 use Rattle.series.specs.Loop.{RealDays}

@@ -1,20 +1,17 @@
 -- `response::put_answer` meets its contract: a refusal's line, or the lines of the days and the last one. Assumes nothing.
 use mathlib.Core.Path.{_≡_, refl, sym, _∙_, ap}
-use mathlib.Core.Bool.{true}
 use mathlib.Core.List.{[]}
-use Prim.Native.Nat.{ℕ, _≤_}
+use Prim.Native.Nat.{ℕ}
 use native.Mathlib.Omega.{arith}
 use borrow.Author.Needs.{needs}
 use Rattle.refusal.specs.declared.Verdict.the-variants.{Pass}
-use Rattle.calendar.specs.declared.dates.Date.{Date}
-use Rattle.calendar.specs.Dates.{dateOf, isDate, dayNumber}
+use Rattle.calendar.specs.Dates.{dateOf, isDate}
 use Rattle.profile.proofs.Accepted.{accepted as file-accepted}
 use Rattle.group.specs.declared.Found.{Found}
 use Rattle.group.specs.declared.Found.the-variants.{At, Nothing}
 use Rattle.group.specs.Group.{groupIn, tableOf}
 use Rattle.group.proofs.Finding.{Checked, checked, found-inside}
 use Rattle.period.specs.CalendarDay.{calendarDay}
-use Rattle.period.proofs.Days.{Period}
 use Rattle.series.specs.Loop.{RealDays}
 use Rattle.expanding.specs.Expanding.{Request, request, daysIn, requestCheck}
 use Rattle.expanding.proofs.Accepted.{Sound, sound}

@@ -34,14 +34,14 @@ loop-holds c =
 number-of-requires : tie.Need-number-of-requires Inv-loop μ-loop
 number-of-requires c κs = this-day (c .before .loop .inv .0) (omega arith) .real
 
-place-of-requires : tie.Need-place-of-requires Inv-loop μ-loop
-place-of-requires c κs = rw (c .number-of .ensures) (c .before .before .loop .inv .1)
+next-entry-requires : tie.Need-next-entry-requires Inv-loop μ-loop
+next-entry-requires c κs = rw (c .number-of .ensures) (c .before .before .loop .inv .1)
 
 expand-day-requires : tie.Need-expand-day-requires Inv-loop μ-loop
 expand-day-requires c κs =
     let l = c .before .before .before .before .loop .inv .0 in
     let pre = c .before .before .before .before .before .before .before .before .pre in
-    let reached = rw (c .before .before .number-of .ensures) at (c .before .place-of .ensures) in (
+    let reached = rw (c .before .before .number-of .ensures) at (c .before .next-entry .ensures) in (
       pre .0,
       (
         this-day l (omega arith),
@@ -70,7 +70,7 @@ loop-again c =
     let l = found .before .before .before .loop in
     let d = l .day .date in
     let real = this-day (l .inv .0) (omega arith) .real in
-    let reached = rw (found .before .number-of .ensures) at (found .place-of .ensures) in (
+    let reached = rw (found .before .number-of .ensures) at (found .next-entry .ensures) in (
       day-turn (l .inv .0) (omega arith) (called .expand-day .ensures) (c .day-after .ensures),
       rw (c .day-after .ensures) (on-later-day (next-day-counts d real .later) reached),
     )
@@ -89,7 +89,7 @@ expand-days-spec =
     μ-loop
     loop-holds
     number-of-requires
-    place-of-requires
+    next-entry-requires
     expand-day-requires
     day-after-requires
     sub-left

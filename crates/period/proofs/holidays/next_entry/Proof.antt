@@ -1,4 +1,4 @@
--- `period::holidays::place_of` meets its contract. The loop's invariant: every entry passed is before the date.
+-- `period::holidays::next_entry` meets its contract. The loop's invariant: every entry passed is earlier than the date.
 -- Assumes nothing.
 use Prim.Native.Nat.{_-_}
 use native.Mathlib.Omega.{arith}
@@ -6,8 +6,8 @@ use borrow.Author.Needs.{needs}
 use lib.ListN.{length}
 use Rattle.period.specs.HolidayPlace.{Passed}
 use Rattle.period.proofs.Listed.{one-more}
-use Rattle.period.proofs.holidays.place_of.Statement.{statement}
-use Rattle.period.proofs.holidays.place_of.Tie as tie
+use Rattle.period.proofs.holidays.next_entry.Statement.{statement}
+use Rattle.period.proofs.holidays.next_entry.Tie as tie
 
 abbrev Inv-loop : tie.InvT-loop
 Inv-loop holidays from date at₀ at = Passed holidays at date
@@ -25,7 +25,7 @@ shared-slice-read-if1 : tie.Need-shared-slice-read-if1 Inv-loop μ-loop
 shared-slice-read-if1 c = omega arith
 
 returns : tie.Need-returns Inv-loop μ-loop
-returns c = record { passed = c .before .before .before .loop .inv; notBefore = λ h. c .if1 .taken }
+returns c = record { passed = c .before .before .before .loop .inv; notEarlier = λ h. c .if1 .taken }
 
 add-at : tie.Need-add-at Inv-loop μ-loop
 add-at c = omega arith
@@ -37,10 +37,10 @@ loop-again : tie.Need-loop-again Inv-loop μ-loop
 loop-again c = one-more (omega arith) (c .if1 .left) (c .before .before .before .loop .inv)
 
 returns-2 : tie.Need-returns-2 Inv-loop μ-loop
-returns-2 c = record { passed = c .before .loop .inv; notBefore = λ h. absurd (omega arith) }
+returns-2 c = record { passed = c .before .loop .inv; notEarlier = λ h. absurd (omega arith) }
 
-pub place-of-spec : {M : Type 1} → statement M
-place-of-spec =
+pub next-entry-spec : {M : Type 1} → statement M
+next-entry-spec =
     tie.close
     (tie.spec
     Inv-loop
