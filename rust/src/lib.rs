@@ -40,8 +40,8 @@ use std::fmt;
 /// The values of one group: three seasons, three day types, 96 quarter hours.
 pub const GROUP_VALUES: usize = 864;
 
-/// Enough entries of output for every period.
-pub const LONGEST_SERIES: usize = 140_260;
+/// Enough entries of output for every period: 1,461 days of at most 100 figures.
+pub const LONGEST_SERIES: usize = 1_461 * 100;
 
 /// The length in bytes of a profile file with `count` groups.
 ///
