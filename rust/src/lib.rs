@@ -112,14 +112,15 @@ pub enum Season {
     Transition,
 }
 
-/// A day type of the profiles.
+/// A day type of the profiles, settled in document 01's order: a Sunday is a Sunday; 24 and 31 December count as Saturday; a
+/// listed holiday counts as Sunday; then Saturdays and weekdays.
 #[derive(Debug, Clone, Copy, PartialEq, Eq)]
 pub enum DayType {
-    /// Monday to Friday.
+    /// Monday to Friday, where the day is neither 24 or 31 December nor a listed holiday.
     Weekday,
-    /// Saturday; 24 and 31 December where they are no Sundays.
+    /// 24 and 31 December, listed or not, where they are no Sundays; other Saturdays that are not listed.
     Saturday,
-    /// Sunday or holiday.
+    /// Sundays; listed holidays but 24 and 31 December.
     Sunday,
 }
 
