@@ -1,14 +1,31 @@
 /*
  * Quarter-hour series from VDEW load profiles: the proved library's calls for C and C++.
- * Link target/staticlib/libexports.a, which `rt staticlib exports` writes.
+ * Link target/staticlib/libexports.a, which `rt staticlib exports` writes, for x86-64, where size_t has 64 bits:
+ * cc -I include main.c target/staticlib/libexports.a
  *
  * Every call takes any input, ends, and either does its work (number 0) or is refused by the first question of document 01
  * that is answered "no": `number` is then that question's number, `place` the place it names (0 where it names none), every
  * other field is 0, and lent memory keeps its content.
  *
+ *   number  what is wrong                                                       place
+ *        1  the file has fewer than 6 bytes or does not begin with "SLP"        0
+ *        2  its version is not 1                                                0
+ *        3  its count of profiles is not 1 to 11, or its length does not fit    0
+ *        4  a group code is above 10 or not above the one before                byte offset of the first such code
+ *        5  a value is above 20,000                                             byte offset of the first such value
+ *        6  the wanted group is not in the file                                 0 (slp_compare: 0 `first`, 1 `second`)
+ *        7  a date is not real or not from 1996 to 2099                         0 the first date, 1 the last
+ *        8  the period ends before it begins or has more than 1,461 days        0
+ *        9  a holiday is no such date, not later than the one before,           index of the first such entry
+ *           or the 401st of the list
+ *       10  the yearly use is above 1,000,000,000 kWh                           0
+ *       11  the carry is above 39,999                                           0
+ *       12  the output is too short                                             entries needed (slp_write: bytes)
+ *
  * All memory is the caller's: it is lent for the length of the call, nothing is allocated, kept or freed. A pointer points
  * at `.._length` entries (entries, not bytes) and is not NULL, also where the length is 0. What a call writes to overlaps
- * nothing else that the call is given. The calls have no state, so threads may call them at the same time.
+ * nothing else that the call is given. The calls have no state: they may be called from several threads at the same time, as
+ * long as no thread writes to what another's call is lent.
  *
  * A group is a code: 0 is H0, 1 to 7 are G0 to G6, 8 to 10 are L0 to L2. A date is a number yyyymmdd. A list of holidays
  * holds strictly rising dates, at most 400.
@@ -29,8 +46,8 @@ extern "C" {
 /* The length in bytes of a profile file with `count` groups. */
 #define SLP_FILE_LENGTH(count) (6 + 1729 * (size_t)(count))
 
-/* Enough entries of output for every period. */
-#define SLP_LONGEST_SERIES 140260
+/* Enough entries of output for every period: 1,461 days of at most 100 figures. */
+#define SLP_LONGEST_SERIES 146100
 
 /* Passed (number 0, place 0) or refused. */
 struct slp_check_report {
@@ -68,7 +85,7 @@ struct slp_expansion_report {
     size_t place;
     size_t count;   /* figures written */
     uint64_t total; /* their sum in Wh */
-    uint32_t carry; /* left over, in 1/40,000 Wh: the carry of the next period's call */
+    uint32_t carry; /* left over, in 1/40,000 Wh, at most 39,999: the carry of the next period's call */
 };
 
 /* Whether `file` is a profile file that has `group`. Questions 1 to 6. Writes nothing. */
@@ -98,14 +115,17 @@ struct slp_check_report slp_write(const uint8_t *codes, size_t codes_length, con
 /* Compares two groups of `file`. Questions 1 to 6 (place in 6: 0 where `first` is missing, else 1). Writes nothing. */
 struct slp_comparison_report slp_compare(const uint8_t *file, size_t file_length, uint8_t first, uint8_t second);
 
-/* Weekday, day of the year, season, day type and value count of `date`. Questions 7 (place 0) and 9. Writes nothing. */
+/*
+ * Weekday, day of the year, season, day type and value count of `date`. Questions 7 (place 0) and 9. Writes nothing.
+ * `holidays` is not NULL, also where the list is empty.
+ */
 struct slp_day_report slp_day(uint32_t date, const uint32_t *holidays, size_t holidays_length);
 
 /*
  * Makes the series of `group` from `first` to `last`, both included, at most 1,461 days, for a yearly use of `yearly` kWh
- * (at most 1,000,000,000), and writes its figures in Wh into the first entries of `out`, keeping those beyond. `carry` is 0
- * to begin with, then what the call for the days before returned. Questions 1 to 12 (place in 12: the entries needed;
- * SLP_LONGEST_SERIES is always enough).
+ * (at most 1,000,000,000), and writes its figures, the Wh of one quarter hour each, into the first entries of `out`, keeping
+ * those beyond. `carry`, at most 39,999, is 0 to begin with, then what the call for the days before returned. `holidays` is not
+ * NULL, also where the list is empty. Questions 1 to 12 (place in 12: the entries needed; SLP_LONGEST_SERIES is always enough).
  */
 struct slp_expansion_report slp_expand(const uint8_t *file, size_t file_length, uint8_t group, uint32_t first, uint32_t last,
                                        const uint32_t *holidays, size_t holidays_length, uint32_t yearly, uint32_t carry,

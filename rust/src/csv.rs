@@ -1,9 +1,12 @@
 //! A group's values as a table of text.
 //!
-//! The header line has the group's name and the names of nine day columns; 96 lines follow, each with the time at which its
-//! quarter hour ends, 00:15 to 24:00, and nine values in watts with one decimal (a whole number may go without). Fields are
-//! split by `;`, with a decimal comma or point, or by `,`, with a decimal point: the header settles which. Blank lines and
-//! lines that begin with `#` are passed over.
+//! The header line has the group's name and the names of nine day columns, `winter weekday`, `winter Saturday`,
+//! `winter Sunday` and the same of summer and transition; 96 lines follow, each with the time at which its quarter hour ends,
+//! 00:15 to 24:00, and nine values in watts for 1,000 kWh a year, 0 to 2000.0 with one decimal (a whole number may go
+//! without). Fields are split by `;`, with a decimal comma or point, or by `,`, with a decimal point: the header settles
+//! which. Blank lines and lines that begin with `#` are passed over.
+//!
+//! A fault names the line of the text and, as the column, the number of the field in it, both from 1.
 use std::fmt;
 
 use crate::group;
@@ -33,7 +36,7 @@ pub struct Table {
     pub values: Vec<u16>,
 }
 
-/// What is wrong with a table, and where.
+/// What is wrong with a table, and where: the line, and as the column the field's number.
 #[derive(Debug, Clone, PartialEq, Eq)]
 pub struct Fault {
     line: usize,

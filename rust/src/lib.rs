@@ -40,8 +40,8 @@ use std::fmt;
 /// The values of one group: three seasons, three day types, 96 quarter hours.
 pub const GROUP_VALUES: usize = 864;
 
-/// Enough entries of output for every period.
-pub const LONGEST_SERIES: usize = 140_260;
+/// Enough entries of output for every period: 1,461 days of at most 100 figures.
+pub const LONGEST_SERIES: usize = 1_461 * 100;
 
 /// The length in bytes of a profile file with `count` groups.
 ///
@@ -112,14 +112,15 @@ pub enum Season {
     Transition,
 }
 
-/// A day type of the profiles.
+/// A day type of the profiles, settled in document 01's order: a Sunday is a Sunday; 24 and 31 December count as Saturday; a
+/// listed holiday counts as Sunday; then Saturdays and weekdays.
 #[derive(Debug, Clone, Copy, PartialEq, Eq)]
 pub enum DayType {
-    /// Monday to Friday.
+    /// Monday to Friday, where the day is neither 24 or 31 December nor a listed holiday.
     Weekday,
-    /// Saturday; 24 and 31 December where they are no Sundays.
+    /// 24 and 31 December, listed or not, where they are no Sundays; other Saturdays that are not listed.
     Saturday,
-    /// Sunday or holiday.
+    /// Sundays; listed holidays but 24 and 31 December.
     Sunday,
 }
 

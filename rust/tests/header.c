@@ -78,6 +78,7 @@ static void listing(void)
     struct slp_expansion_report tight = slp_expand(file, sizeof file, 1, 20000325, 20000326, no_holidays, 0, 1000, 0, out, 187);
     expect("expand into 187 entries", tight.number, 12);
     expect("entries needed", tight.place, 188);
+    expect("entries that are always enough", SLP_LONGEST_SERIES, 1461 * 100);
 }
 
 int main(void)

@@ -248,6 +248,7 @@ fn listing_input() -> Vec<u8> {
 }
 
 const LISTING: &str = "2000-03-25 T2 96 2402\n2000-03-26 T3 92 2302\ntotal 2 188 4704 28000\n";
+const UNREAD: &str = "slp: the input could not be read to its end\n";
 const UNWRITTEN: &str = "slp: the output could not be written\n";
 
 #[test]
@@ -267,10 +268,11 @@ fn a_pipe_may_deliver_a_byte_at_a_time() {
 
 /// A folder can be opened and not read.
 #[test]
-fn a_failed_read_ends_the_input() {
+fn a_failed_read_is_said_on_standard_error() {
     let folder = File::open(repository::path("target")).unwrap();
     let output = Command::new(program()).stdin(folder).output().unwrap();
-    assert_eq!(printed(output), "refused 13 0\n");
+    assert_eq!(String::from_utf8_lossy(&output.stderr), UNREAD);
+    assert_eq!(String::from_utf8_lossy(&output.stdout), "");
 }
 
 #[test]

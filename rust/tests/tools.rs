@@ -46,7 +46,10 @@ fn request_with(argument: usize, text: &str) -> Output {
 
 #[test]
 fn a_request_takes_six_arguments() {
-    expect_refused(slp_request(&[]), &["0 arguments", "usage: slp_request"]);
+    expect_refused(
+        slp_request(&[]),
+        &["0 arguments", "usage: slp_request", "0 to 1000000000"],
+    );
     expect_refused(
         slp_request(&["G0"; 7]),
         &["7 arguments", "usage: slp_request"],
@@ -77,10 +80,15 @@ fn a_request_refuses_texts_that_are_no_dates() {
 
 #[test]
 fn a_request_refuses_numbers_that_do_not_fit() {
-    for kwh in ["4294967296", "-1", "3.5", "", "lots"] {
+    for kwh in ["4294967296", "-1", "3.500", "3,500", "3 500", "", "lots"] {
         expect_refused(
             request_with(3, kwh),
-            &["KWH", &format!("{kwh:?}"), "0 to 4294967295"],
+            &[
+                "KWH",
+                &format!("{kwh:?}"),
+                "0 to 1000000000",
+                "no separators",
+            ],
         );
     }
 }

@@ -7,7 +7,15 @@ use slp::csv::{self, Table};
 use slp::{files, group};
 
 const USAGE: &str = "usage: slp_csv pack TABLE.csv.. OUT.slp
-       slp_csv unpack FILE.slp GROUP > TABLE.csv";
+       slp_csv unpack FILE.slp GROUP > TABLE.csv
+  GROUP      H0, G0 to G6, L0 to L2
+  TABLE.csv  one group's values; several tables make one file:
+             a header: GROUP;winter weekday;winter Saturday;winter Sunday, then the same three of summer and of transition
+             96 rows: the end of the quarter hour, 00:15 to 24:00, and nine values
+             a value: the watts for 1,000 kWh a year, 0 to 2000.0, with at most one decimal
+             fields are split by ; (decimal comma or point) or by , (decimal point)
+             blank lines and lines that begin with # are passed over
+A message about a table names its line and, as the column, the field's number.";
 
 fn main() -> ExitCode {
     let arguments: Vec<OsString> = std::env::args_os().skip(1).collect();

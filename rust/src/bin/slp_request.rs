@@ -10,7 +10,7 @@ use slp::{date, files, group};
 const USAGE: &str = "usage: slp_request GROUP FIRST LAST KWH HOLIDAYS PROFILE > REQUEST
   GROUP      H0, G0 to G6, L0 to L2
   FIRST LAST the period's dates, yyyy-mm-dd, both included
-  KWH        the yearly use, a whole number
+  KWH        the yearly use, a whole number without separators; the program takes 0 to 1000000000
   HOLIDAYS   a file with one date yyyy-mm-dd a line, or - for none; lines that begin with # are passed over
   PROFILE    the profile file";
 
@@ -51,7 +51,7 @@ fn parsed_date(argument: &str, text: &str) -> Result<u32, String> {
 fn number(argument: &str, text: &str) -> Result<u32, String> {
     parse_number(text).ok_or_else(|| {
         format!(
-            "{argument}: {} is no whole number from 0 to 4294967295",
+            "{argument}: {} is no whole number from 0 to 1000000000; no separators are allowed",
             quoted(text)
         )
     })

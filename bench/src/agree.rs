@@ -1,0 +1,260 @@
+//! Holds all ways to the proved calls, the lent memory included: on the timed inputs, and on random ones, whole and damaged.
+use slp::{file_length, Refusal, Request, GROUP_VALUES};
+
+use crate::calendar::{day_of, Day};
+use crate::calls::{Answer, Calls, Work, ALL, PROVED};
+use crate::inputs::Inputs;
+use crate::lines::LINES;
+use crate::random::Random;
+
+const REQUESTS: usize = 500;
+
+/// What the proved call makes of the lent memory, where the other ways make the same.
+fn same(lent: impl Fn() -> Work, run: impl Fn(&Calls, &mut Work)) -> Result<Work, String> {
+    let mut proved = lent();
+    run(&PROVED, &mut proved);
+    for calls in ALL {
+        let mut work = lent();
+        run(calls, &mut work);
+        if work != proved {
+            return Err(difference(calls.name, &proved, &work));
+        }
+    }
+    Ok(proved)
+}
+
+fn difference(name: &str, proved: &Work, work: &Work) -> String {
+    if (&proved.expanded, &proved.answered) != (&work.expanded, &work.answered) {
+        let answers = |work: &Work| match work.expanded {
+            Some(expanded) => format!("{expanded:?}"),
+            None => format!("{:?}", work.answered),
+        };
+        return format!(
+            "{name} answers {}, the proved call {}",
+            answers(work),
+            answers(proved)
+        );
+    }
+    let mut figures = work.out.iter().zip(&proved.out);
+    match figures.position(|(ours, theirs)| ours != theirs) {
+        Some(i) => format!(
+            "{name} has figure {i} as {}, the proved call as {}",
+            work.out[i], proved.out[i]
+        ),
+        None => format!("{name} leaves another table or buffer than the proved call"),
+    }
+}
+
+/// All ways on what is timed.
+pub fn on_timed_inputs(inputs: &Inputs) -> Result<(), String> {
+    for line in &LINES {
+        same(Work::longest, |calls, work| (line.run)(calls, inputs, work))
+            .map_err(|difference| format!("{}: {difference}", line.title))?;
+    }
+    Ok(())
+}
+
+/// A random request to every call.
+struct Case {
+    codes: Vec<u8>,
+    values: Vec<u16>,
+    file: Vec<u8>,
+    group: u8,
+    first: u32,
+    last: u32,
+    holidays: Vec<u32>,
+    yearly: u32,
+    carry: u32,
+    /// The lengths of the lent output, table and buffer.
+    lent: [usize; 3],
+}
+
+fn draw_codes(random: &mut Random) -> Vec<u8> {
+    let start = random.below(11) as u8;
+    let chosen = |code: &u8| *code == start || random.once_in(2);
+    (0..=10).filter(chosen).collect()
+}
+
+fn draw_values(random: &mut Random, count: usize) -> Vec<u16> {
+    let largest = random.one_of(&[0, 2_500, 16_384, 20_000]);
+    let least = random.one_of(&[0, largest]);
+    let mut value = || (least + random.below(largest - least + 1)) as u16;
+    (0..GROUP_VALUES * count).map(|_| value()).collect()
+}
+
+/// A value that question 5 refuses.
+fn bad_value(random: &mut Random) -> u16 {
+    random.one_of(&[20_001, 32_768, 65_535])
+}
+
+fn damage_file(random: &mut Random, file: &mut Vec<u8>) {
+    let profiles = (file.len() / file_length(1)) as u32;
+    let at = 6 + 1_729 * random.below(profiles) as usize;
+    match random.below(8) {
+        0 => file.truncate(random.below(8) as usize),
+        1 => file.truncate(file.len() - 1),
+        2 => file.push(0),
+        3 => file[random.below(3) as usize] ^= 1 << random.below(8),
+        4 => file[3 + random.below(2) as usize] ^= 1 << random.below(8),
+        5 => file[5] = random.below(13) as u8,
+        6 => file[at] = random.below(13) as u8,
+        _ => {
+            let at = at + 1 + 2 * random.below(864) as usize;
+            file[at..at + 2].copy_from_slice(&bad_value(random).to_be_bytes());
+        }
+    }
+}
+
+fn damage_contents(random: &mut Random, codes: &mut Vec<u8>, values: &mut Vec<u16>) {
+    let code = random.below(codes.len() as u32) as usize;
+    let value = random.below(values.len() as u32) as usize;
+    match random.below(4) {
+        0 => drop(values.pop()),
+        1 => codes.clear(),
+        2 => codes[code] = random.below(13) as u8,
+        _ => values[value] = bad_value(random),
+    }
+}
+
+fn draw_period(random: &mut Random) -> (u32, u32) {
+    let bad = [
+        0, 19951231, 20010229, 20000431, 20001301, 20000100, 21000101,
+    ];
+    let year = 1996 + random.below(104);
+    let first = 10_000 * year + 100 * (1 + random.below(12)) + 1 + random.below(28);
+    let short = random.one_of(&[1, 3, 40, 400, 1_461]);
+    let further = random.below(short) + 1_461 * u32::from(random.once_in(20));
+    let last = day_of(first).map_or(0, |first| {
+        (0..further).fold(first, |day, _| day.next()).date()
+    });
+    match random.below(24) {
+        0 => (random.one_of(&bad), last),
+        1 => (first, random.one_of(&bad)),
+        2 => (last, first),
+        _ => (first, last),
+    }
+}
+
+/// Dates from the beginning of the first date's year on.
+fn draw_holidays(random: &mut Random, first: u32) -> Vec<u32> {
+    let count = random.one_of(&[0, 1, 10, 60, 400]) + usize::from(random.once_in(12));
+    let gap = random.one_of(&[1, 5, 40]);
+    let start = day_of(first / 10_000 * 10_000 + 101);
+    let mut step = |day: Day| (0..=random.below(gap)).fold(day, |day, _| day.next());
+    let days = std::iter::successors(start, |&day| Some(step(day)));
+    days.map(|day| day.date())
+        .take_while(|&date| date < 21000000)
+        .take(count)
+        .collect()
+}
+
+impl Case {
+    fn draw(random: &mut Random) -> Case {
+        let mut codes = draw_codes(random);
+        let mut values = draw_values(random, codes.len());
+        let mut file = vec![0; file_length(codes.len())];
+        slp::write(&codes, &values, &mut file).expect("the values are in range");
+        let any = random.below(12) as u8;
+        let group = if random.once_in(12) {
+            any
+        } else {
+            random.one_of(&codes)
+        };
+        if random.once_in(4) {
+            damage_file(random, &mut file);
+        }
+        if random.once_in(3) {
+            damage_contents(random, &mut codes, &mut values);
+        }
+        let (first, last) = draw_period(random);
+        let mut holidays = draw_holidays(random, first);
+        if !holidays.is_empty() && random.once_in(12) {
+            let at = random.below(holidays.len() as u32) as usize;
+            holidays[at] = random.one_of(&[0, 20000230, holidays[0]]);
+        }
+        let yearly = random.below(1_000_000_000);
+        let yearly = [0, 1, 3_500, yearly, yearly, 1_000_000_000, 1_000_000_001];
+        let carry = random.below(40_000);
+        let carry = [0, 0, carry, carry, carry, 39_999, 39_999, 40_000];
+        let mut case = Case {
+            group,
+            first,
+            last,
+            yearly: random.one_of(&yearly),
+            carry: random.one_of(&carry),
+            holidays,
+            lent: [0; 3],
+            file,
+            codes,
+            values,
+        };
+        case.lent = [case.needed(), GROUP_VALUES, file_length(case.codes.len())]
+            .map(|needed| (needed + random.one_of(&[1, 1, 4, 0])).saturating_sub(1));
+        case
+    }
+
+    fn request(&self) -> Request<'_> {
+        Request {
+            file: &self.file,
+            group: self.group,
+            first: self.first,
+            last: self.last,
+            holidays: &self.holidays,
+            yearly: self.yearly,
+            carry: self.carry,
+        }
+    }
+
+    /// How many entries of output expanding asks for.
+    fn needed(&self) -> usize {
+        match slp::expand(&self.request(), &mut []) {
+            Err(Refusal { number: 12, place }) => place,
+            _ => 100,
+        }
+    }
+
+    /// All ways on the four calls: the proved answers.
+    fn run(&self) -> Result<[Answer; 4], String> {
+        let [out, table, buffer] = self.lent;
+        let lent = || Work::new(out, table, buffer);
+        let request = self.request();
+        let expanded = same(lent, |calls, work| {
+            work.expanded = Some((calls.expand)(&request, &mut work.out));
+        })?;
+        let checked = same(lent, |calls, work| {
+            work.answered = Some((calls.check)(&self.file, self.group));
+        })?;
+        let read = same(lent, |calls, work| {
+            work.answered = Some((calls.read)(&self.file, self.group, &mut work.table));
+        })?;
+        let written = same(lent, |calls, work| {
+            work.answered = Some((calls.write)(&self.codes, &self.values, &mut work.buffer));
+        })?;
+        let answers = [
+            expanded.expanded.map(|answer| answer.map(|_| ())),
+            checked.answered,
+            read.answered,
+            written.answered,
+        ];
+        Ok(answers.map(|answer| answer.expect("every call was made")))
+    }
+}
+
+/// All ways on random requests: how many calls were accepted, then how many each question refused.
+pub fn on_random_requests() -> Result<[usize; 13], String> {
+    let mut random = Random::new(2_000);
+    let mut tally = [0; 13];
+    for i in 0..REQUESTS {
+        let case = Case::draw(&mut random);
+        let answers = case.run().map_err(|difference| {
+            format!(
+                "random request {i} (group {}, {} to {}, {} kWh, carry {}, {} holidays): {difference}",
+                case.group, case.first, case.last, case.yearly, case.carry, case.holidays.len()
+            )
+        })?;
+        for answer in answers {
+            tally[answer.map_or_else(|refusal| refusal.number as usize, |()| 0)] += 1;
+        }
+    }
+    Ok(tally)
+}

@@ -1,0 +1,77 @@
+//! The calls that are compared, for each implementation, and what they are lent and answer.
+use slp::{Expansion, Refusal, Request};
+
+use crate::{fast, kept, plain};
+
+pub type Answer = Result<(), Refusal>;
+
+pub struct Calls {
+    pub name: &'static str,
+    pub check: fn(&[u8], u8) -> Answer,
+    pub read: fn(&[u8], u8, &mut [u16]) -> Answer,
+    pub write: fn(&[u8], &[u16], &mut [u8]) -> Answer,
+    pub expand: fn(&Request, &mut [u32]) -> Result<Expansion, Refusal>,
+}
+
+pub static PROVED: Calls = Calls {
+    name: "proved",
+    check: slp::check,
+    read: slp::read,
+    write: slp::write,
+    expand: slp::expand,
+};
+
+pub static PLAIN: Calls = Calls {
+    name: "plain",
+    check: plain::check,
+    read: plain::read,
+    write: plain::write,
+    expand: plain::expand,
+};
+
+pub static FAST: Calls = Calls {
+    name: "fast",
+    check: fast::check,
+    read: fast::read,
+    write: fast::write,
+    expand: fast::expand,
+};
+
+/// Expanding with tables kept for the whole call; the other calls are those of `FAST`.
+pub static KEPT: Calls = Calls {
+    name: "kept",
+    check: fast::check,
+    read: fast::read,
+    write: fast::write,
+    expand: kept::expand,
+};
+
+pub static ALL: [&Calls; 4] = [&PROVED, &PLAIN, &FAST, &KEPT];
+
+/// What a call is lent and what it answers.
+#[derive(PartialEq)]
+pub struct Work {
+    pub out: Vec<u32>,
+    pub table: Vec<u16>,
+    pub buffer: Vec<u8>,
+    pub expanded: Option<Result<Expansion, Refusal>>,
+    pub answered: Option<Answer>,
+}
+
+impl Work {
+    /// Lent memory of these lengths, with a content that no call writes by chance.
+    pub fn new(out: usize, table: usize, buffer: usize) -> Work {
+        Work {
+            out: vec![0xA5A5_A5A5; out],
+            table: vec![0xA5A5; table],
+            buffer: vec![0xA5; buffer],
+            expanded: None,
+            answered: None,
+        }
+    }
+
+    /// Enough for every call.
+    pub fn longest() -> Work {
+        Work::new(slp::LONGEST_SERIES, slp::GROUP_VALUES, slp::file_length(11))
+    }
+}

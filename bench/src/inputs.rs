@@ -1,0 +1,55 @@
+//! What the calls are measured on: a full file of eleven profiles with made-up values, and a list of holidays.
+use slp::{file_length, Request, GROUP_VALUES};
+
+use crate::random::Random;
+
+const PROFILES: usize = 11;
+
+pub struct Inputs {
+    pub codes: Vec<u8>,
+    pub values: Vec<u16>,
+    pub file: Vec<u8>,
+    pub holidays: Vec<u32>,
+}
+
+/// Values without a pattern, from 0 to 2,500 tenths of a watt.
+fn made_up_values() -> Vec<u16> {
+    let mut random = Random::new(1);
+    let mut value = || random.below(2_501) as u16;
+    (0..PROFILES * GROUP_VALUES).map(|_| value()).collect()
+}
+
+/// Ten fixed days of each year from 1999 to 2004.
+fn holidays() -> Vec<u32> {
+    let days = [101, 421, 424, 501, 601, 612, 1003, 1031, 1225, 1226];
+    (1999..=2004)
+        .flat_map(|year| days.map(|day| 10_000 * year + day))
+        .collect()
+}
+
+impl Inputs {
+    pub fn new() -> Inputs {
+        let codes: Vec<u8> = (0..PROFILES as u8).collect();
+        let values = made_up_values();
+        let mut file = vec![0; file_length(PROFILES)];
+        slp::write(&codes, &values, &mut file).expect("the values are in range");
+        Inputs {
+            codes,
+            values,
+            file,
+            holidays: holidays(),
+        }
+    }
+
+    pub fn request(&self, group: u8, first: u32, last: u32) -> Request<'_> {
+        Request {
+            file: &self.file,
+            group,
+            first,
+            last,
+            holidays: &self.holidays,
+            yearly: 3_500,
+            carry: 0,
+        }
+    }
+}

@@ -1,0 +1,80 @@
+//! The lines of the table: what is measured.
+use crate::calls::{Calls, Work};
+use crate::inputs::Inputs;
+
+pub struct Line {
+    /// Its name on the command line.
+    pub name: &'static str,
+    pub title: &'static str,
+    /// How many figures or values a call works on.
+    pub units: usize,
+    pub run: fn(&Calls, &Inputs, &mut Work),
+}
+
+fn expand(calls: &Calls, inputs: &Inputs, work: &mut Work, group: u8, first: u32, last: u32) {
+    let request = inputs.request(group, first, last);
+    work.expanded = Some((calls.expand)(&request, &mut work.out));
+}
+
+pub static LINES: [Line; 8] = [
+    Line {
+        name: "h0-year",
+        title: "expand H0, 366 days",
+        units: 35_136,
+        run: |calls, inputs, work| expand(calls, inputs, work, 0, 20000101, 20001231),
+    },
+    Line {
+        name: "g0-year",
+        title: "expand G0, 366 days",
+        units: 35_136,
+        run: |calls, inputs, work| expand(calls, inputs, work, 1, 20000101, 20001231),
+    },
+    Line {
+        name: "h0-longest",
+        title: "expand H0, 1,461 days",
+        units: 140_256,
+        run: |calls, inputs, work| expand(calls, inputs, work, 0, 20000101, 20031231),
+    },
+    Line {
+        name: "g0-longest",
+        title: "expand G0, 1,461 days",
+        units: 140_256,
+        run: |calls, inputs, work| expand(calls, inputs, work, 1, 20000101, 20031231),
+    },
+    Line {
+        name: "h0-day",
+        title: "expand H0, 1 day",
+        units: 96,
+        run: |calls, inputs, work| expand(calls, inputs, work, 0, 20000614, 20000614),
+    },
+    Line {
+        name: "check",
+        title: "check, 11 profiles",
+        units: 9_504,
+        run: |calls, inputs, work| work.answered = Some((calls.check)(&inputs.file, 10)),
+    },
+    Line {
+        name: "read",
+        title: "read, 11 profiles",
+        units: 9_504,
+        run: |calls, inputs, work| {
+            work.answered = Some((calls.read)(&inputs.file, 10, &mut work.table));
+        },
+    },
+    Line {
+        name: "write",
+        title: "write, 11 profiles",
+        units: 9_504,
+        run: |calls, inputs, work| {
+            work.answered = Some((calls.write)(
+                &inputs.codes,
+                &inputs.values,
+                &mut work.buffer,
+            ));
+        },
+    },
+];
+
+pub fn line(name: &str) -> Option<&'static Line> {
+    LINES.iter().find(|line| line.name == name)
+}

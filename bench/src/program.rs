@@ -1,0 +1,88 @@
+//! The program's own run on the longest request, beside the start of a process and beside the library's call.
+use std::io::Write;
+use std::path::{Path, PathBuf};
+use std::process::{Command, Stdio};
+use std::time::Instant;
+
+use slp::program::Input;
+
+use crate::calls::Work;
+use crate::inputs::Inputs;
+use crate::timing::{alternate, median};
+
+const RUNS: usize = 101;
+const DAYS: usize = 1_461;
+
+fn path() -> PathBuf {
+    Path::new(env!("CARGO_MANIFEST_DIR")).join("../target/bin/slp")
+}
+
+/// What the program prints for an input.
+fn run(program: &Path, input: &[u8]) -> std::io::Result<String> {
+    let mut child = Command::new(program)
+        .stdin(Stdio::piped())
+        .stdout(Stdio::piped())
+        .spawn()?;
+    if let Some(mut stdin) = child.stdin.take() {
+        stdin.write_all(input)?;
+    }
+    let output = child.wait_with_output()?;
+    Ok(String::from_utf8_lossy(&output.stdout).into_owned())
+}
+
+/// Microseconds of a run that must end with this line.
+fn timed(program: &Path, input: &[u8], last: &str) -> Result<f64, String> {
+    let start = Instant::now();
+    let printed = run(program, input).map_err(|error| format!("{}: {error}", program.display()))?;
+    let time = start.elapsed().as_nanos() as f64 / 1_000.0;
+    match printed.lines().last() {
+        Some(line) if line == last => Ok(time),
+        line => Err(format!(
+            "the program ends with {line:?}, and not with {last:?}"
+        )),
+    }
+}
+
+pub fn measure(inputs: &Inputs) -> Result<(), String> {
+    let program = path();
+    if !program.is_file() {
+        return Err(format!(
+            "{} is missing: run `rt check slp` in the repository's root first",
+            program.display()
+        ));
+    }
+    let request = inputs.request(0, 20000101, 20031231);
+    let input = Input {
+        group: request.group,
+        first: request.first,
+        last: request.last,
+        yearly: request.yearly,
+        holidays: inputs.holidays.clone(),
+        file: inputs.file.clone(),
+    };
+    let input = input.encode()?;
+    let mut work = Work::longest();
+    let made = slp::expand(&request, &mut work.out).map_err(|refusal| refusal.to_string())?;
+    let last = format!("total {DAYS} {} {} {}", made.count, made.total, made.carry);
+
+    let mut whole = Vec::new();
+    let mut start = Vec::new();
+    for _ in 0..RUNS {
+        whole.push(timed(&program, &input, &last)?);
+        start.push(timed(&program, &[], "refused 13 0")?);
+    }
+    let call = |work: &mut Work| work.expanded = Some(slp::expand(&request, &mut work.out));
+    let [call] = alternate([&call], &mut work).map(|time| time / 1_000.0);
+    report(median(&mut whole), median(&mut start), call);
+    Ok(())
+}
+
+fn report(whole: f64, start: f64, call: f64) {
+    println!("\nThe program on H0, 1,461 days: microseconds, the median of {RUNS} runs");
+    println!("{:<42}{:>10}{:>20}", "", "", "/ the library call");
+    let line = |title, time: f64| println!("{title:<42}{time:>10.0}{:>20.2}", time / call);
+    line("the whole run, process started and ended", whole);
+    line("the same with an empty input, refused", start);
+    line("the difference: the program's own work", whole - start);
+    line("the library call", call);
+}
