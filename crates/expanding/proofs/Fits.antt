@@ -1,4 +1,5 @@
--- "A figure fits 32 bits, a total 64.": no power is above 40,000, so no figure is above the yearly use by more than the carry.
+-- "A figure fits 32 bits, a total 64.": no power is above 40,000, so no figure is above the yearly use by more than the carry. And
+-- no series is longer than 1,461 days of 100.
 -- Assumes nothing.
 use mathlib.Core.Path.{refl}
 use mathlib.Core.List.{List, [], _∷_}
@@ -8,11 +9,13 @@ use native.Mathlib.Omega.{arith}
 use Rattle.calendar.specs.Dates.{dateOf}
 use Rattle.group.proofs.Finding.{checked}
 use Rattle.period.specs.CalendarDay.{calendarDay}
+use Rattle.period.proofs.Days.{values-small}
 use Rattle.carry.specs.Carry.{figures}
 use Rattle.carry.specs.Energy.{Each, powers}
 use Rattle.series.proofs.DayByDay.{Small, all-small, whole-fits}
-use Rattle.expanding.specs.Expanding.{daysIn, quarters, series, FiguresFit}
+use Rattle.expanding.specs.Expanding.{daysIn, quarters, series, FiguresFit, LongestSeries}
 use Rattle.expanding.proofs.Accepted.{sound}
+use Rattle.expanding.proofs.Answers.{entries-needed}
 use Rattle.expanding.proofs.Given.{table-values, real-days}
 
 -- small powers make small figures
@@ -34,3 +37,7 @@ figures-fit q h =
       figures-small (q .yearly) (powers (quarters q)) (q .carry) (s .yearly) (s .carry) (all-small values (q .group) (q .holidays) (daysIn q) (dateOf (q .first)) (real .all)),
       whole-fits values (q .group) (q .holidays) {first = day} (record { yearlySmall = s .yearly; carrySmall = s .carry }) real,
     )
+
+pub longest-series : LongestSeries
+unfolding LongestSeries
+longest-series q h = omega (arith, entries-needed q, values-small (daysIn q) (dateOf (q .first)), sound q h .period .short)

@@ -2,7 +2,7 @@
 -- the lent output, accepted and refused.
 use mathlib.Core.Path.{_≡_}
 use mathlib.Core.List.{List}
-use Prim.Native.Nat.{ℕ, _^_, _<_}
+use Prim.Native.Nat.{ℕ, _^_, _≤_, _<_}
 use lib.Dec.{leb}
 use lib.ListN.{length}
 use Rattle.refusal.specs.declared.Refusal.the-variants.{BadUse, BadCarry, ShortOutput}
@@ -109,6 +109,10 @@ pub record Expands (q : Request) (answer : Expansion) (after : List ℕ) : Type 
 -- the theorem: "A figure fits 32 bits, a total 64." Proved in proofs/Fits.antt.
 unfoldable pub FiguresFit : Type 0
 FiguresFit = (q : Request) → requestCheck q ≡ Pass → Each (λ figure. figure < 2 ^ 32) (series q) × (sum (series q) < 2 ^ 64)
+
+-- the theorem: 146,100 entries of output, 1,461 days of 100, are enough for every request. Proved in proofs/Fits.antt.
+unfoldable pub LongestSeries : Type 0
+LongestSeries = (q : Request) → requestCheck q ≡ Pass → length (series q) ≤ 146_100
 
 -- the figures for each case of the answer: an accepted call has number and place 0; "A refusal gives number, place and zeros
 -- elsewhere"
