@@ -59,10 +59,16 @@ fn expand_day(
     requires { ⌜ Room yearly (powers (dayQuarters (now values) group (now holidays) (day .date))) before (now out) ⌝ }
     ensures { λ r. ⌜ Added yearly (powers (dayQuarters (now (values .entry)) group (now (holidays .entry)) (day .date))) before (now (out .entry)) r (now (out .exit)) ⌝ }
 {
-    let powers = powers_on(values, group, day, holidays, place);
     let clock = calendar::days::clock_of(day.date, day.weekday);
     let at = before.count;
-    let carried = day_figures::carry_day(powers, clock, yearly, before.carry, out, at);
+    let carried = day_figures::carry_day(
+        powers_on(values, group, day, holidays, place),
+        clock,
+        yearly,
+        before.carry,
+        out,
+        at,
+    );
     let count = at + calendar::days::values_under(clock) as usize;
     let total = before.total + carried.total;
     Totals {

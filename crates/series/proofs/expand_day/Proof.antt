@@ -6,13 +6,13 @@ use Rattle.series.proofs.OneDay.{own-weekday, carry-asked, total-fits, 
 use Rattle.series.proofs.expand_day.Statement.{statement}
 use Rattle.series.proofs.expand_day.Tie as tie
 
-powers-on-requires : tie.Need-powers-on-requires
-powers-on-requires c κs = search needs
-
 clock-of-requires : tie.Need-clock-of-requires
 clock-of-requires c κs =
-    let real = c .before .before .before .before .pre .1 .0 in
+    let real = c .before .before .before .pre .1 .0 in
     (real .real, own-weekday real)
+
+powers-on-requires : tie.Need-powers-on-requires
+powers-on-requires c κs = search needs
 
 carry-day-requires : tie.Need-carry-day-requires
 carry-day-requires c κs =
@@ -20,7 +20,7 @@ carry-day-requires c κs =
     let start = asked .before .before .before .before .before in
     let (small, room) =
     carry-asked (start .pre .0) (start .args .group) (start .args .holidays .now) (start .args .day .date)
-    (asked .before .powers-on .ensures) (asked .clock-of .ensures) (start .pre .1 .1 .1 .1) (start .pre .1 .0 .real) (start .pre .1 .1 .1 .0) in
+    (asked .powers-on .ensures) (asked .before .clock-of .ensures) (start .pre .1 .1 .1 .1) (start .pre .1 .0 .real) (start .pre .1 .1 .1 .0) in
     (small, omega arith)
 
 values-under-requires : tie.Need-values-under-requires
@@ -39,7 +39,7 @@ add-total c =
     let start = asked .before .before .before .before .before in
     let fits =
     total-fits (start .pre .0) (start .args .group) (start .args .holidays .now) (start .args .day .date)
-    (asked .before .powers-on .ensures) (asked .clock-of .ensures) (start .pre .1 .1 .1 .1) (called .carry-day .ensures .totalIs) in
+    (asked .powers-on .ensures) (asked .before .clock-of .ensures) (start .pre .1 .1 .1 .1) (called .carry-day .ensures .totalIs) in
     omega arith
 
 same-length : tie.Need-same-length
@@ -51,14 +51,14 @@ returns c =
     let asked = called .before .before in
     let start = asked .before .before .before .before .before in
     added (start .pre .0) (start .args .group) (start .args .holidays .now) (start .args .day .date)
-    (asked .before .powers-on .ensures) (asked .clock-of .ensures) (start .pre .1 .1 .1 .1) (called .carry-day .ensures) (c .before .before .values-under .ensures)
+    (asked .powers-on .ensures) (asked .before .clock-of .ensures) (start .pre .1 .1 .1 .1) (called .carry-day .ensures) (c .before .before .values-under .ensures)
 
 pub expand-day-spec : {M : Type 1} → statement M
 expand-day-spec =
     tie.close
     (tie.spec
-    powers-on-requires
     clock-of-requires
+    powers-on-requires
     carry-day-requires
     values-under-requires
     cast-count
