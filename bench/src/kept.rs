@@ -1,5 +1,5 @@
 //! The limit for groups without dynamisation, where a day's powers are its table's values: what a table adds up to is worked
-//! out once a call, and no division is left in the loop over the days. No day is laid out as 96 powers, so this is not what
+//! out once a call, and no division is left for each figure. No day is laid out as 96 powers, so this is not what
 //! document 01 asks for. A household's series is made as `fast` does.
 use slp::{Expansion, Refusal, Request};
 

@@ -1,5 +1,5 @@
-// The list of holidays walked along with the days of a call: a place in it is handed from day to day, so that no day looks
-// through the whole list.
+// The list of holidays walked along with the days of a call: a place in it is handed from day to day, so that only the first day
+// looks for its place from the list's start.
 ghost use mathlib.Core.Path.{_≡_};
 ghost use Rattle.refusal.specs.declared.Verdict.the-variants.{Pass};
 ghost use Rattle.calendar.specs.Days.{listed};

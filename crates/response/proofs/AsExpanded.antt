@@ -1,31 +1,39 @@
--- The lines of a request say what expanding answers: its rows add up to the last line's totals, which one call answers, and a
--- request for one day has one row. Assumes nothing.
+-- The figures of a request's lines are what expanding answers: its rows add up to the last line's totals, which one call answers,
+-- a request for one day has one row, and a refusal is that call's. Assumes nothing.
 use mathlib.Core.Path.{_≡_, sym, _∙_, ap}
-use mathlib.Core.List.{[], _∷_, append-nil}
-use Prim.Native.Nat.{_≤_}
+use mathlib.Core.List.{List, [], _∷_, append-nil}
+use Prim.Native.Nat.{ℕ, _≤_}
 use borrow.Author.Tests.{le-leb}
 use lib.ListN.{length}
 use Rattle.refusal.specs.declared.Refusal.the-variants.{ShortOutput}
-use Rattle.refusal.specs.declared.Verdict.the-variants.{Pass}
+use Rattle.refusal.specs.declared.Refusal.{Refusal}
+use Rattle.refusal.specs.declared.Verdict.the-variants.{Pass, Refused}
+use Rattle.refusal.specs.Verdict.{_then_}
 use Rattle.refusal.proofs.Laws.{then-pass, ask-yes}
 use Rattle.calendar.specs.Dates.{dateOf}
 use Rattle.group.specs.Group.{tableOf}
 use Rattle.day_powers.specs.DayQuarters.{dayQuarters}
 use Rattle.series.specs.Series.{quartersOfDays}
+use Rattle.expanding.specs.declared.Expansion.{Expansion}
 use Rattle.expanding.specs.declared.Expansion.the-variants.{Expanded}
 use Rattle.expanding.specs.Expanding.{Request, daysIn, series, totals, requestCheck, outputQuestion, expandCheck, answered, expansion}
 use Rattle.expanding.proofs.Answers.{series-length}
 use Rattle.listing.specs.Listing.{rowOf, rows, RowsAddUp}
 use Rattle.listing.proofs.Rows.{rows-add-up, length-rows}
-use Rattle.response.specs.Response.{rowsOf, AsExpanded, LinesAsExpanded}
+use Rattle.response.specs.Response.{rowsOf, lent, AsExpanded, LinesAsExpanded}
+
+module _ (q : Request) (output : List ℕ) where
+  answer : requestCheck q ≡ Pass → length (series q) ≤ length output → expansion (lent q output) ≡ Expanded (totals q)
+  unfolding expansion expandCheck series
+  answer p room =
+      let pass : expandCheck (lent q output) ≡ Pass = then-pass (outputQuestion (lent q output)) p ∙ ask-yes (ShortOutput (length (series q))) (le-leb _ _ room) in
+      ap (λ v. answered v (totals (lent q output))) pass
+
+  refusal : (r : Refusal) → requestCheck q ≡ Refused r → expansion (lent q output) ≡ Expansion.Refused (Refused r)
+  unfolding expansion expandCheck _then_
+  refusal r h = ap (λ v. answered (v then outputQuestion (lent q output)) (totals (lent q output))) h
 
 module _ (q : Request) where
-  answer : requestCheck q ≡ Pass → length (series q) ≤ length (q .output) → expansion q ≡ Expanded (totals q)
-  unfolding expansion expandCheck
-  answer p room =
-      let pass : expandCheck q ≡ Pass = then-pass (outputQuestion q) p ∙ ask-yes (ShortOutput (length (series q))) (le-leb _ _ room) in
-      ap (λ v. answered v (totals q)) pass
-
   one-day : daysIn q ≡ 1 → rowsOf q ≡ rowOf (dateOf (q .first)) (totals q .count) (totals q .total) ∷ []
   unfolding rows series quartersOfDays
   one-day one = rw (one, append-nil (dayQuarters (tableOf (q .file) (q .group)) (q .group) (q .holidays) (dateOf (q .first))))
@@ -38,8 +46,9 @@ module _ (q : Request) where
         days = length-rows (tableOf (q .file) (q .group)) (q .group) (q .holidays) (q .yearly) (daysIn q) (dateOf (q .first)) (q .carry);
         counts = counts ∙ sym (series-length q);
         wattHours = energy;
-        whole = answer;
+        whole = answer q;
         day = one-day;
+        refused = refusal q;
       }
 
 pub lines-as-expanded : LinesAsExpanded

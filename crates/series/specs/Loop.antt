@@ -21,7 +21,7 @@ pub record GroupValues (values : List ℕ) : Type 0 where
   pub whole : length values ≡ 864
   pub small : (i : ℕ) → getD values i 0 ≤ 20_000
 
--- a list in order, and a date's place in it
+-- a list in order, and the place in it of the first entry that is not earlier than a date
 pub record InList (holidays : List ℕ) (place : ℕ) (d : Date) : Type 0 where
   pub inOrder : holidaysQuestion holidays ≡ Pass
   pub reached : Reached holidays place (numberOf d)

@@ -26,7 +26,7 @@ fn main() {
     print(&input, count, &mut page);
 }
 
-// Whether the input is over. A read that fails ends `read_full` too: then another read fails again, or finds more.
+// Whether the input is over, as one more read says: a read that failed ends `read_full` too, and most such failures show again.
 fn at_end() -> bool {
     let mut more = [0u8; 1];
     libc::read(STDIN_FILENO, &mut more) == 0
