@@ -1,3 +1,4 @@
 pub mod Days
 pub mod Rounding
+pub mod Scaled
 pub mod Whole
