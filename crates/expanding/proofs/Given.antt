@@ -2,7 +2,7 @@
 use mathlib.Core.Path.{_≡_, refl, _∙_}
 use mathlib.Core.Bool.{Bool, true, false}
 use mathlib.Core.List.{List}
-use Prim.Native.Nat.{ℕ, _≤_}
+use Prim.Native.Nat.{ℕ, _≤_, _<_}
 use native.Mathlib.Omega.{arith}
 use borrow.Author.Tests.{ltb-true, ltb-false}
 use lib.Dec.{ltb}
@@ -18,6 +18,7 @@ use Rattle.group.specs.Group.{groupIn, tableOf}
 use Rattle.group.specs.Inside.{valueBytes}
 use Rattle.group.proofs.Tables.{part-of, part-words, table-bound, table-length}
 use Rattle.period.specs.declared.CalendarDay.{CalendarDay}
+use Rattle.period.specs.Period.{daysOf}
 use Rattle.period.specs.CalendarDay.{calendarDay}
 use Rattle.period.proofs.Days.{Period, period-days}
 use Rattle.day_powers.specs.DayQuarters.{dayQuarters}
@@ -54,6 +55,11 @@ real-days q day days s e f =
     let p = s .period in
     let dates = period-days (dateOf (q .first)) (dateOf (q .last)) (p .dates-first) (p .dates-last) (p .ordered) .dates in
     record { known = rw e; few = rw f (p .short); all = rw (e, f) dates }
+
+-- and there is at least one
+pub some-days : (q : Request) {days : ℕ} → Sound q → days ≡ daysIn q → 0 < days
+unfolding daysOf
+some-days q s e = omega (arith, s .period .ordered, e)
 
 -- the quarter hours of the group's values are the request's
 pub same-quarters : (q : Request) {values : List ℕ} {day : CalendarDay} {days : ℕ} → values ≡ tableOf (q .file) (q .group) → day ≡ calendarDay (dateOf (q .first)) → days ≡ daysIn q → quartersOfDays (dayQuarters values (q .group) (q .holidays)) days (day .date) ≡ quarters q

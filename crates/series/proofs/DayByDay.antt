@@ -39,6 +39,9 @@ pub record Left (yearly : ℕ) (whole : List ℕ) (carry : ℕ) (entry : List �
   pub room : length whole ≤ length entry
   pub fits : sum (figures yearly whole carry) < 2 ^ 64
 
+pub added-length : {yearly : ℕ} {first : List ℕ} {soFar r : Totals} {out after : List ℕ} → Added yearly first soFar out r after → length after ≡ length out
+added-length {yearly} {first} {soFar} {out = out} did = rw (did .stored) (length-sets out (soFar .count) (figures yearly first (soFar .carry)))
+
 -- totals are their three parts
 same-totals : {n t k n′ t′ k′ : ℕ} → n ≡ n′ → t ≡ t′ → k ≡ k′ → _≡_ {A = Totals} (record { count = n; total = t; carry = k }) (record { count = n′; total = t′; carry = k′ })
 same-totals n t k = rw (n, t, k)
@@ -173,3 +176,9 @@ module _ {values : List ℕ} {group : ℕ} {holidays : List ℕ} {yearly : ℕ} 
           real = record { known = refl; few = omega arith; all = all-next left (day .date) (l .real .all) };
           todo = turn (dayPowers values group holidays (day .date)) _ split did;
         })
+
+    -- the last day, stored and added
+    pub last-day : {r : Totals} {after : List ℕ} → left ≤ 1 → Added yearly (dayPowers values group holidays (day .date)) soFar out r after →
+        Filled yearly whole carry entry r after
+    last-day one did =
+        done (rw (powers-none values group holidays (left - 1) (nextDay (day .date)) (omega arith)) at (turn (dayPowers values group holidays (day .date)) _ split did))

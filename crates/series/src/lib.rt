@@ -1,7 +1,7 @@
 // Series and carry (document 01): a period's figures, day by day, with the carry handed from day to day.
 use period::CalendarDay;
 ghost use mathlib.Core.Path.{_≡_};
-ghost use Prim.Native.Nat.{_≤_};
+ghost use Prim.Native.Nat.{_≤_, _<_};
 ghost use lib.ListN.{length};
 ghost use Rattle.carry.specs.Energy.{powers};
 ghost use Rattle.refusal.specs.declared.Verdict.the-variants.{Pass};
@@ -78,7 +78,8 @@ fn expand_day(
     }
 }
 
-// Stores the figures of some days from the start of the output on. `values` are the group's.
+// Stores the figures of some days, at least one, from the start of the output on. `values` are the group's. The last day is behind
+// the loop: no day after it is worked out, and with two calls `expand_day` stays a function of its own, which keeps its loops fast.
 pub fn expand_days(
     values: &[u16],
     group: u8,
@@ -94,6 +95,7 @@ pub fn expand_days(
     requires { ⌜ holidaysQuestion (now holidays) ≡ Pass ⌝ }
     requires { ⌜ InRange yearly carry ⌝ }
     requires { ⌜ length (quartersOfDays (dayQuarters (now values) group (now holidays)) days (first .date)) ≤ length (now out) ⌝ }
+    requires { ⌜ 0 < days ⌝ }
     ensures { λ r. ⌜ Filled yearly (powers (quartersOfDays (dayQuarters (now (values .entry)) group (now (holidays .entry))) days (first .date))) carry (now (out .entry)) r (now (out .exit)) ⌝ }
 {
     let mut day = first;
@@ -104,11 +106,12 @@ pub fn expand_days(
         carry,
     };
     let mut place: usize = 0;
-    while 0 < left {
+    while 1 < left {
         place = period::holidays::next_entry(holidays, place, calendar::dates::number_of(day.date));
         so_far = expand_day(values, group, day, holidays, place, yearly, so_far, out);
         day = period::day_after(day);
         left -= 1;
     }
-    so_far
+    place = period::holidays::next_entry(holidays, place, calendar::dates::number_of(day.date));
+    expand_day(values, group, day, holidays, place, yearly, so_far, out)
 }

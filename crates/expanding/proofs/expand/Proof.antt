@@ -24,7 +24,7 @@ use Rattle.series.specs.Loop.{RealDays}
 use Rattle.expanding.specs.Expanding.{Request, request, daysIn, quarters, series, requestCheck}
 use Rattle.expanding.proofs.Accepted.{sound}
 use Rattle.expanding.proofs.Answers.{file-refused, others-refused, output-refused, expanded, series-length, entries-needed}
-use Rattle.expanding.proofs.Given.{dates, table-is, group-values, real-days, same-quarters}
+use Rattle.expanding.proofs.Given.{some-days, dates, table-is, group-values, real-days, same-quarters}
 use Rattle.expanding.proofs.expand.Statement.{statement}
 use Rattle.expanding.proofs.expand.Tie as tie
 
@@ -184,7 +184,7 @@ expand-days-requires c κs =
     let at = of-request (of-count (of-values v)) in
     let s = sound (wanted v) (request-passed (of-count (of-values v))) in
     let values = group-values _ _ (file-passed (of-group at)) (found at) (v .values-at .ensures) in
-    (values, (real (of-values v .before), (s .holidays, (record { yearlySmall = s .yearly; carrySmall = s .carry }, fits v))))
+    (values, (real (of-values v .before), (s .holidays, (record { yearlySmall = s .yearly; carrySmall = s .carry }, (fits v, some-days (wanted v) s (days-are (of-values v .before)))))))
 
 same-length : tie.Need-same-length
 same-length c = search needs

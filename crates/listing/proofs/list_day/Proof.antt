@@ -14,7 +14,7 @@ expand-days-requires c κs =
       start .pre .0,
       (
         one-day (start .pre .1 .0),
-        (start .pre .1 .1 .0, (start .pre .1 .1 .1 .0, one-room (start .pre .0) (start .args .group) (start .args .holidays .now) (start .args .day .date))),
+        (start .pre .1 .1 .0, (start .pre .1 .1 .1 .0, (one-room (start .pre .0) (start .args .group) (start .args .holidays .now) (start .args .day .date), omega arith))),
       ),
     )
 
