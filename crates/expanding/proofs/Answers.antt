@@ -46,11 +46,9 @@ module _ (q : Request) where
   others-refused p e t = refused _ (stops _ (e ∙ sym (then-pass _ p)) t) t
 
   -- by question 12
-  pub output-refused : {needed : ℕ} → requestCheck q ≡ Pass → needed ≡ length (series q) → length (q .output) < needed → Expands q (Expansion.Refused (Refused (ShortOutput needed))) (q .output)
+  pub output-refused : {v : Verdict} → requestCheck q ≡ Pass → v ≡ outputQuestion q → IsRefused v → Expands q (Expansion.Refused v) (q .output)
   unfolding expandCheck
-  output-refused {needed} p e l =
-      let short : length (q .output) < length (series q) = rw (← e) l in
-      refused _ (ap (λ (n : ℕ). Refused (ShortOutput n)) e ∙ sym (then-pass _ p ∙ ask-no _ (lt-leb _ _ short))) refl
+  output-refused p e t = refused _ (e ∙ sym (then-pass _ p)) t
 
   -- by none
   pub expanded : {t : Totals} {after : List ℕ} → requestCheck q ≡ Pass → length (series q) ≤ length (q .output) → Filled (q .yearly) (powers (quarters q)) (q .carry) (q .output) t after → Expands q (Expansion.Expanded t) after

@@ -1,14 +1,20 @@
 // Expanding (document 01, "Series and carry" and questions 1 to 12): a period's series in the lent output.
 // The file is checked once, nothing is allocated, and nothing is copied but the group's values and one day's powers.
 use group::Found;
+use period::CalendarDay;
 use refusal::Refusal;
 use refusal::Verdict;
 use series::Totals;
 ghost use mathlib.Core.Path.{_≡_};
 ghost use mathlib.Core.List.{[]};
-ghost use Rattle.refusal.specs.Verdict.{_then_};
+ghost use Prim.Native.Nat.{_≤_};
+ghost use lib.Dec.{leb};
+ghost use Rattle.refusal.specs.declared.Refusal.the-variants.{ShortOutput};
+ghost use Rattle.refusal.specs.Verdict.{ask, _then_};
+ghost use Rattle.calendar.specs.Days.{valuesOfDays};
 ghost use Rattle.calendar.specs.Holidays.{holidaysQuestion};
-ghost use Rattle.period.specs.Period.{periodCheck};
+ghost use Rattle.period.specs.CalendarDay.{calendarDay};
+ghost use Rattle.period.specs.Period.{AllDates, periodCheck};
 ghost use Rattle.expanding.specs.Expanding.{request, requestCheck, useQuestion, carryQuestion, Expands, reported};
 
 // What expanding answers: count, total and last carry, or the refusal.
@@ -85,6 +91,24 @@ pub fn check_request(
     request_questions(first, last, holidays, yearly, carry)
 }
 
+// Question 12, of an output of some length. One with 100 entries for each day is long enough for any days: only where it is shorter
+// are their quarter hours counted.
+fn output_question(first: CalendarDay, days: u32, length: usize) -> Verdict
+    requires { ⌜ first ≡ calendarDay (first .date) ⌝ }
+    requires { ⌜ days ≤ 1_461 ⌝ }
+    requires { ⌜ AllDates days (first .date) ⌝ }
+    ensures { λ r. ⌜ r ≡ ask (leb (valuesOfDays days (first .date)) length) (ShortOutput (valuesOfDays days (first .date))) ⌝ }
+{
+    if days as usize * 100 <= length {
+        return Verdict::Pass;
+    }
+    let needed = period::values_of_days(first, days);
+    if length < needed {
+        return Verdict::Refused(Refusal::ShortOutput(needed));
+    }
+    Verdict::Pass
+}
+
 // Fills the output from its start with the figures of the period's quarter hours and keeps what is beyond; a refusal changes
 // nothing.
 pub fn expand(
@@ -113,10 +137,10 @@ pub fn expand(
     let from = calendar::dates::date_of(first);
     let days = period::days_of(from, calendar::dates::date_of(last));
     let day = period::calendar_day(from);
-    let needed = period::values_of_days(day, days);
-    if out.len() < needed {
-        return Expansion::Refused(Verdict::Refused(Refusal::ShortOutput(needed)));
-    }
+    let v = output_question(day, days, out.len());
+    let Verdict::Pass = v else {
+        return Expansion::Refused(v);
+    };
     let values = group::reading::values_at(file, at);
     let made = series::expand_days(&values, group, day, days, holidays, yearly, carry, out);
     Expansion::Expanded(made)

@@ -2,11 +2,15 @@
 -- Assumes nothing.
 use mathlib.Core.Path.{_≡_, refl, sym, _∙_, ap}
 use Prim.Native.Nat.{ℕ, _≤_}
+use lib.Dec.{leb}
 use native.Mathlib.Omega.{arith}
 use lib.ListN.{length}
 use borrow.Author.Needs.{needs}
+use borrow.Author.Tests.{leb-true}
+use Rattle.refusal.specs.declared.Refusal.the-variants.{ShortOutput}
 use Rattle.refusal.specs.declared.Verdict.the-variants.{Pass}
-use Rattle.refusal.proofs.Laws.{stops, then-pass}
+use Rattle.refusal.specs.Verdict.{ask}
+use Rattle.refusal.proofs.Laws.{stops, then-pass, ask-passed}
 use Rattle.calendar.specs.declared.dates.Date.{Date}
 use Rattle.calendar.specs.Dates.{dateOf, isDate}
 use Rattle.calendar.specs.Days.{valuesOfDays}
@@ -21,7 +25,7 @@ use Rattle.period.specs.Period.{daysOf}
 use Rattle.day_powers.specs.DayQuarters.{dayQuarters}
 use Rattle.series.specs.Series.{quartersOfDays}
 use Rattle.series.specs.Loop.{RealDays}
-use Rattle.expanding.specs.Expanding.{Request, request, daysIn, quarters, series, requestCheck}
+use Rattle.expanding.specs.Expanding.{Request, request, daysIn, quarters, series, requestCheck, outputQuestion}
 use Rattle.expanding.proofs.Accepted.{sound}
 use Rattle.expanding.proofs.Answers.{file-refused, others-refused, output-refused, expanded, series-length, entries-needed}
 use Rattle.expanding.proofs.Given.{some-days, dates, table-is, group-values, real-days, same-quarters}
@@ -75,33 +79,34 @@ days-are c =
 real : (c : tie.After-calendar-day) → RealDays (c .calendar-day .result) (c .before .days-of .result)
 real c = real-days (asked (of-day c)) _ _ (sound _ (request-passed (of-day c))) (day-is c) (days-are c)
 
-abbrev of-count : tie.After-values-of-days → tie.After-enum-told4
-of-count c = of-day (c .before)
+-- question 12, of the period's own quarter hours
+abbrev of-output : tie.After-output-question → tie.After-enum-told4
+of-output c = of-day (c .before)
 
-needed-is : (c : tie.After-values-of-days) → c .values-of-days .result ≡ length (series (asked (of-count c)))
-needed-is c =
-    c .values-of-days .ensures ∙ same (day-is (c .before)) (days-are (c .before)) ∙ sym (entries-needed (asked (of-count c)))
+asked-output : (c : tie.After-output-question) → c .output-question .result ≡ outputQuestion (asked (of-output c))
+asked-output c =
+    c .output-question .ensures ∙ same (length (asked (of-output c) .output)) (day-is (c .before)) (days-are (c .before)) (entries-needed (asked (of-output c)))
   where
-    same : {day e : CalendarDay} {days m : ℕ} → day ≡ e → days ≡ m → valuesOfDays days (day .date) ≡ valuesOfDays m (e .date)
-    same h k = rw (h, k)
+    same : {day e : CalendarDay} {days m n : ℕ} (room : ℕ) → day ≡ e → days ≡ m → n ≡ valuesOfDays m (e .date) → ask (leb (valuesOfDays days (day .date)) room) (ShortOutput (valuesOfDays days (day .date))) ≡ ask (leb n room) (ShortOutput n)
+    same room h k l = rw (h, k, l)
 
 -- the group's values
-abbrev of-values : tie.After-values-at → tie.After-values-of-days
-of-values c = c .before .before
+abbrev of-values : tie.After-values-at → tie.After-output-question
+of-values c = c .before .before .before
 
 abbrev wanted : tie.After-values-at → Request
-wanted c = asked (of-count (of-values c))
+wanted c = asked (of-output (of-values c))
 
 table : (c : tie.After-values-at) → c .values-at .result ≡ tableOf (wanted c .file) (wanted c .group)
 table c =
-    let at = of-request (of-count (of-values c)) in
+    let at = of-request (of-output (of-values c)) in
     table-is _ _ (file-passed (of-group at)) (found at) (c .values-at .ensures)
 
 quarters-are : (c : tie.After-values-at) → quartersOfDays (dayQuarters (c .values-at .result) (wanted c .group) (wanted c .holidays)) (of-values c .before .before .days-of .result) (of-values c .before .calendar-day .result .date) ≡ quarters (wanted c)
 quarters-are c = same-quarters (wanted c) (table c) (day-is (of-values c .before)) (days-are (of-values c .before))
 
 room : (c : tie.After-values-at) → length (series (wanted c)) ≤ length (wanted c .output)
-room c = omega (arith, needed-is (of-values c), c .before .if1 .left)
+room c = leb-true _ _ (ask-passed _ _ (sym (asked-output (of-values c)) ∙ c .before .enum-told6 .given .1))
 
 fits : (c : tie.After-values-at) → length (quartersOfDays (dayQuarters (c .values-at .result) (wanted c .group) (wanted c .holidays)) (of-values c .before .before .days-of .result) (of-values c .before .calendar-day .result .date)) ≤ length (wanted c .output)
 fits c = omega (arith, ap length (quarters-are c), series-length (wanted c), room c)
@@ -162,16 +167,23 @@ calendar-day-requires c κs =
     let p = sound (asked (c .before .before .before)) (request-passed (c .before .before .before)) .period in
     ap isDate (c .before .before .date-of .ensures) ∙ p .dates-first
 
-values-of-days-requires : tie.Need-values-of-days-requires
-values-of-days-requires c κs = let r = real c in (r .known, (r .few, r .all))
+output-question-requires : tie.Need-output-question-requires
+output-question-requires c κs = let r = real c in (r .known, (r .few, r .all))
+
+enum-told-6 : tie.Need-enum-told-6
+enum-told-6 c = search needs
+
+enum-told-7 : tie.Need-enum-told-7
+enum-told-7 c = search needs
 
 returns-4 : tie.Need-returns-4
 returns-4 c =
-    output-refused (asked (of-count (c .before))) (request-passed (of-count (c .before))) (needed-is (c .before)) (c .if1 .taken)
+    let o = c .before .before in
+    output-refused (asked (of-output o)) (request-passed (of-output o)) (asked-output o) (c .before .match4 .keys2)
 
 values-at-requires : tie.Need-values-at-requires
 values-at-requires c κs =
-    let at = of-request (of-count (c .before)) in
+    let at = of-request (of-output (c .before .before)) in
     let laid = accepted _ (file-passed (of-group at)) .headed .laid in
     (laid, found-inside _ _ _ laid (found at))
 
@@ -181,8 +193,8 @@ slice-aggregate-expand-days c = search needs
 expand-days-requires : tie.Need-expand-days-requires
 expand-days-requires c κs =
     let v = c .before .before in
-    let at = of-request (of-count (of-values v)) in
-    let s = sound (wanted v) (request-passed (of-count (of-values v))) in
+    let at = of-request (of-output (of-values v)) in
+    let s = sound (wanted v) (request-passed (of-output (of-values v))) in
     let values = group-values _ _ (file-passed (of-group at)) (found at) (v .values-at .ensures) in
     (values, (real (of-values v .before), (s .holidays, (record { yearlySmall = s .yearly; carrySmall = s .carry }, (fits v, some-days (wanted v) s (days-are (of-values v .before)))))))
 
@@ -192,7 +204,7 @@ same-length c = search needs
 returns-5 : tie.Need-returns-5
 returns-5 c =
     let v = c .before .before .before .before .before in
-    expanded (wanted v) (request-passed (of-count (of-values v))) (room v) (rw (quarters-are v) at (c .before .before .expand-days .ensures))
+    expanded (wanted v) (request-passed (of-output (of-values v))) (room v) (rw (quarters-are v) at (c .before .before .expand-days .ensures))
 
 pub expand-spec : {M : Type 1} → statement M
 expand-spec =
@@ -214,7 +226,9 @@ expand-spec =
     date-of-requires-2
     days-of-requires
     calendar-day-requires
-    values-of-days-requires
+    output-question-requires
+    enum-told-6
+    enum-told-7
     returns-4
     values-at-requires
     slice-aggregate-expand-days
