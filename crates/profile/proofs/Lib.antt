@@ -1,3 +1,4 @@
 pub mod Accepted
+pub mod Joined
 pub mod Strides
 pub mod Words

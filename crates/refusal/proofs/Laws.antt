@@ -88,6 +88,16 @@ module _ (question : ℕ → Verdict) (step : ℕ) where
   each-refused n at {v} h e t =
       turn n at h ∙ (rw (← e) (then-refused v (askEach question step (n - 1) (at + step)) t))
 
+  -- the question passes at each of the n places
+  pub each-pass : (n at : ℕ) → ((k : ℕ) → k < n → question (at + k * step) ≡ Pass) → askEach question step n at ≡ Pass
+  unfolding askEach
+  each-pass zero at h = refl
+  each-pass (suc n) at h =
+      let first : at + zero * step ≡ at = omega arith in
+      let next : (k : ℕ) → at + suc k * step ≡ at + step + k * step = λ k. omega (arith, suc-mul k step) in
+      then-pass (askEach question step n (at + step)) (rw first at (h zero (omega arith)))
+      ∙ each-pass n (at + step) (λ k l. rw (next k) at (h (suc k) (omega arith)))
+
 -- The other way round: what a check that passed tells of its questions.
 pub ask-passed : (b : Bool) (r : Refusal) → ask b r ≡ Pass → b ≡ true
 unfolding ask

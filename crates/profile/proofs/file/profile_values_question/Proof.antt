@@ -1,5 +1,5 @@
--- `file::profile_values_question` meets its contract. The loop's invariant: what is left to ask is all that counts, and it is in
--- the file. The measure is how many values are left. Assumes nothing.
+-- `file::profile_values_question` meets its contract: where the quick look passes, every value does. The loop's invariant: what
+-- is left to ask is all that counts, and it is in the file. The measure is how many values are left. Assumes nothing.
 use mathlib.Core.Path.{_≡_, refl, sym, _∙_}
 use Prim.Native.Nat.{_+_, _*_, _≤_}
 use native.Mathlib.Omega.{arith}
@@ -8,6 +8,7 @@ use borrow.Author.Needs.{needs}
 use Rattle.refusal.specs.Verdict.{askEach}
 use Rattle.refusal.proofs.Laws.{each-done, each-next, each-refused}
 use Rattle.profile.specs.File.{valueQuestion, profileValuesQuestion}
+use Rattle.profile.proofs.Joined.{upper-pass}
 use Rattle.profile.proofs.file.profile_values_question.Statement.{statement}
 use Rattle.profile.proofs.file.profile_values_question.Tie as tie
 
@@ -17,6 +18,22 @@ Inv-loop file at left₀ at₀ left at' =
 
 abbrev μ-loop : tie.MeasureT-loop
 μ-loop file at left₀ at₀ left at' = left
+
+add-upper-bytes : tie.Need-add-upper-bytes Inv-loop μ-loop
+add-upper-bytes c = omega arith
+
+upper-bytes-requires : tie.Need-upper-bytes-requires Inv-loop μ-loop
+upper-bytes-requires c κs = omega arith
+
+returns : tie.Need-returns Inv-loop μ-loop
+unfolding profileValuesQuestion
+returns c =
+    let known = c .before .before .before in
+    let a = known .before .args in
+    let look = c .before .upper-bytes in
+    sym
+    (upper-pass (a .file .now) (λ i. omega (arith, known .shared-slice-known .given i)) _ _ (look .result) (look .ensures)
+    (omega arith))
 
 add-at : tie.Need-add-at Inv-loop μ-loop
 add-at c = omega arith
@@ -33,9 +50,9 @@ enum-told c = search needs
 enum-told-2 : tie.Need-enum-told-2 Inv-loop μ-loop
 enum-told-2 c = search needs
 
-returns : tie.Need-returns Inv-loop μ-loop
+returns-2 : tie.Need-returns-2 Inv-loop μ-loop
 unfolding profileValuesQuestion
-returns c =
+returns-2 c =
     let l = c .before .before .before .before .loop in
     sym (each-refused (valueQuestion _) 2 (l .left) (l .at) (omega arith) (c .before .before .value-question .ensures) (search needs)) ∙ l .inv .0
 
@@ -58,9 +75,9 @@ loop-again c =
       omega arith,
     )
 
-returns-2 : tie.Need-returns-2 Inv-loop μ-loop
+returns-3 : tie.Need-returns-3 Inv-loop μ-loop
 unfolding profileValuesQuestion
-returns-2 c =
+returns-3 c =
     let l = c .before .loop in
     sym (each-done (valueQuestion _) 2 (l .left) (l .at) (omega arith)) ∙ l .inv .0
 
@@ -70,14 +87,17 @@ profile-values-question-spec =
     (tie.spec
     Inv-loop
     μ-loop
+    add-upper-bytes
+    upper-bytes-requires
+    returns
     add-at
     loop-holds
     value-question-requires
     enum-told
     enum-told-2
-    returns
+    returns-2
     add-at-2
     sub-left
     loop-less
     loop-again
-    returns-2)
+    returns-3)
