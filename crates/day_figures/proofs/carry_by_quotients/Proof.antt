@@ -1,4 +1,4 @@
--- `day_figures::carry_range` meets its contract. The invariant: what is stored and the powers left come to the range (proofs/Ranges.antt),
+-- `day_figures::carry_by_quotients` meets its contract. The invariant: what is stored and the powers left come to the range (proofs/Ranges.antt),
 -- and the sum fits: a turn adds at most 40,000 × 10^9.
 -- Assumes nothing.
 use mathlib.Core.Path.{_≡_, refl}
@@ -8,10 +8,10 @@ use native.Mathlib.Omega.{arith}
 use lib.ListN.{length, getD, length-set}
 use lib.Seq.{slice}
 use Rattle.day_figures.proofs.Ranges.{Left, start, turn, done}
-use Rattle.day_figures.proofs.carry_range.Statement.{statement}
-use Rattle.day_figures.proofs.carry_range.Tie as tie
-use Rattle.day_figures.proofs.carry_range.Reads as reads
-use Rattle.day_figures.proofs.carry_range.Lts as lts
+use Rattle.day_figures.proofs.carry_by_quotients.Statement.{statement}
+use Rattle.day_figures.proofs.carry_by_quotients.Tie as tie
+use Rattle.day_figures.proofs.carry_by_quotients.Reads as reads
+use Rattle.day_figures.proofs.carry_by_quotients.Lts as lts
 
 abbrev Inv-loop : tie.InvT-loop
 Inv-loop powers from to yearly carry out₀ at sum₀ total₀ i₀ place₀ out sum total i place =
@@ -94,8 +94,8 @@ returns c =
     let l = c .before .loop in
     done _ (l .i) (c .before .before .args .to) (omega arith) refl (omega arith) refl (l .inv .5)
 
-pub carry-range-spec : {M : Type 1} → statement M
-carry-range-spec =
+pub carry-by-quotients-spec : {M : Type 1} → statement M
+carry-by-quotients-spec =
     tie.close
     (tie.spec
     Inv-loop
