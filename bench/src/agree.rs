@@ -173,7 +173,17 @@ impl Case {
             holidays[at] = random.one_of(&[0, 20000230, holidays[0]]);
         }
         let yearly = random.below(1_000_000_000);
-        let yearly = [0, 1, 3_500, yearly, yearly, 1_000_000_000, 1_000_000_001];
+        let yearly = [
+            0,
+            1,
+            3_500,
+            500_000,
+            500_001,
+            yearly,
+            yearly,
+            1_000_000_000,
+            1_000_000_001,
+        ];
         let carry = random.below(40_000);
         let carry = [0, 0, carry, carry, carry, 39_999, 39_999, 40_000];
         let mut case = Case {

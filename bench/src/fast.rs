@@ -234,6 +234,9 @@ fn divided(bits: u64) -> u64 {
     (sum * (1.0 / 40_000.0) - 0.4999875 + BASE).to_bits()
 }
 
+/// The parts of a watt hour in which a small customer's sums are kept: 2^38.
+const PARTS: u64 = 1 << 38;
+
 /// The carry and the total as they run, and room for a day's sums at every second value.
 struct Run {
     yearly: u32,
@@ -243,10 +246,36 @@ struct Run {
 }
 
 impl Run {
-    /// Stores the figures of some powers of a day: what each adds to the quotient of the sum so far. First every second sum is
+    /// Stores the figures of some powers of a day: what each adds to the quotient of the sum so far.
+    fn store<const N: usize>(&mut self, powers: &[u32; N], figures: &mut [u32; N]) {
+        if self.yearly <= 500_000 {
+            self.store_in_parts(powers, figures);
+        } else {
+            self.store_in_floats(powers, figures);
+        }
+    }
+
+    /// For a yearly use of at most 500,000 kWh a day's sum fits 64 bits in parts of 2^38 Wh. Carry and yearly use are turned into
+    /// parts, rounded up; the sum is then too large by less than 1/40,000 Wh, which changes no quotient.
+    fn store_in_parts<const N: usize>(&mut self, powers: &[u32; N], figures: &mut [u32; N]) {
+        let scaled = |n: u64| (n * PARTS).div_ceil(40_000);
+        let energy = scaled(u64::from(self.yearly));
+        let mut sum = scaled(self.carry);
+        let mut before = 0;
+        for (figure, &power) in figures.iter_mut().zip(powers) {
+            sum += u64::from(power) * energy;
+            let after = (sum / PARTS) as u32;
+            *figure = after - before;
+            before = after;
+        }
+        self.carry = (sum % PARTS * 40_000) / PARTS;
+        self.total += u64::from(before);
+    }
+
+    /// For any yearly use: the quotients two at a time as floats. First every second sum is
     /// made, which is all that waits for the one before; then the sums between them and the quotients of both. The sums begin
     /// with 40,000, so the quotients with 1.
-    fn store<const N: usize>(&mut self, powers: &[u32; N], figures: &mut [u32; N]) {
+    fn store_in_floats<const N: usize>(&mut self, powers: &[u32; N], figures: &mut [u32; N]) {
         let energy = |power: u32| u64::from(power) * u64::from(self.yearly);
         let (powers, _) = powers.as_chunks::<2>();
         let (figures, _) = figures.as_chunks_mut::<2>();

@@ -16,7 +16,7 @@ fn expand(calls: &Calls, inputs: &Inputs, work: &mut Work, group: u8, first: u32
     work.expanded = Some((calls.expand)(&request, &mut work.out));
 }
 
-pub static LINES: [Line; 8] = [
+pub static LINES: [Line; 10] = [
     Line {
         name: "h0-year",
         title: "expand H0, 366 days",
@@ -46,6 +46,25 @@ pub static LINES: [Line; 8] = [
         title: "expand H0, 1 day",
         units: 96,
         run: |calls, inputs, work| expand(calls, inputs, work, 0, 20000614, 20000614),
+    },
+    Line {
+        name: "h0-large",
+        title: "expand H0, 500,001 kWh",
+        units: 35_136,
+        run: |calls, inputs, work| {
+            let mut request = inputs.request(0, 20000101, 20001231);
+            request.yearly = 500_001;
+            work.expanded = Some((calls.expand)(&request, &mut work.out));
+        },
+    },
+    Line {
+        name: "h0-exact",
+        title: "expand H0, 35,136 long",
+        units: 35_136,
+        run: |calls, inputs, work| {
+            let request = inputs.request(0, 20000101, 20001231);
+            work.expanded = Some((calls.expand)(&request, &mut work.out[..35_136]));
+        },
     },
     Line {
         name: "check",

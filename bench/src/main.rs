@@ -23,7 +23,7 @@ use lines::Line;
 
 const USAGE: &str = "usage: bench                        compare all ways, then measure
        bench count WAY LINE TIMES   make the calls of a line and nothing else, for callgrind
-WAY is proved, plain, fast or kept; LINE is h0-year, g0-year, h0-longest, g0-longest, h0-day, check, read or write.";
+WAY is proved, plain, fast or kept; LINE is h0-year, g0-year, h0-longest, g0-longest, h0-day, h0-large, h0-exact, check, read or write.";
 
 /// What the command line asks for.
 enum Task {

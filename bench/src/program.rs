@@ -1,4 +1,4 @@
-//! The program's own run on the longest request, beside the start of a process and beside the library's call.
+//! The program's own run on the longest request, beside a process that does nothing and beside the library's call.
 use std::io::Write;
 use std::path::{Path, PathBuf};
 use std::process::{Command, Stdio};
@@ -30,17 +30,17 @@ fn run(program: &Path, input: &[u8]) -> std::io::Result<String> {
     Ok(String::from_utf8_lossy(&output.stdout).into_owned())
 }
 
-/// Microseconds of a run that must end with this line.
-fn timed(program: &Path, input: &[u8], last: &str) -> Result<f64, String> {
+/// Microseconds of a run that must end with this line, or print nothing.
+fn timed(program: &Path, input: &[u8], last: Option<&str>) -> Result<f64, String> {
     let start = Instant::now();
     let printed = run(program, input).map_err(|error| format!("{}: {error}", program.display()))?;
     let time = start.elapsed().as_nanos() as f64 / 1_000.0;
-    match printed.lines().last() {
-        Some(line) if line == last => Ok(time),
-        line => Err(format!(
-            "the program ends with {line:?}, and not with {last:?}"
-        )),
+    let line = printed.lines().last();
+    if line != last {
+        let name = program.display();
+        return Err(format!("{name} ends with {line:?}, and not with {last:?}"));
     }
+    Ok(time)
 }
 
 pub fn measure(inputs: &Inputs) -> Result<(), String> {
@@ -66,23 +66,23 @@ pub fn measure(inputs: &Inputs) -> Result<(), String> {
     let last = format!("total {DAYS} {} {} {}", made.count, made.total, made.carry);
 
     let mut whole = Vec::new();
-    let mut start = Vec::new();
+    let mut nothing = Vec::new();
     for _ in 0..RUNS {
-        whole.push(timed(&program, &input, &last)?);
-        start.push(timed(&program, &[], "refused 13 0")?);
+        whole.push(timed(&program, &input, Some(&last))?);
+        nothing.push(timed(Path::new("true"), &[], None)?);
     }
     let call = |work: &mut Work| work.expanded = Some(slp::expand(&request, &mut work.out));
     let [call] = alternate([&call], &mut work).map(|time| time / 1_000.0);
-    report(median(&mut whole), median(&mut start), call);
+    report(median(&mut whole), median(&mut nothing), call);
     Ok(())
 }
 
-fn report(whole: f64, start: f64, call: f64) {
+fn report(whole: f64, nothing: f64, call: f64) {
     println!("\nThe program on H0, 1,461 days: microseconds, the median of {RUNS} runs");
     println!("{:<42}{:>10}{:>20}", "", "", "/ the library call");
     let line = |title, time: f64| println!("{title:<42}{time:>10.0}{:>20.2}", time / call);
     line("the whole run, process started and ended", whole);
-    line("the same with an empty input, refused", start);
-    line("the difference: the program's own work", whole - start);
+    line("`true`, a program that does nothing", nothing);
+    line("the difference: the program's own run", whole - nothing);
     line("the library call", call);
 }
