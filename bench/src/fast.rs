@@ -255,7 +255,7 @@ impl Run {
         }
     }
 
-    /// For a yearly use of at most 500,000 kWh a day's sum fits 64 bits in parts of 2^38 Wh. Carry and yearly use are turned into
+    /// For a yearly use of at most 500,000 kWh a day's sum fits 64 bits in parts of 1/2^38 Wh. Carry and yearly use are turned into
     /// parts, rounded up; the sum is then too large by less than 1/40,000 Wh, which changes no quotient.
     fn store_in_parts<const N: usize>(&mut self, powers: &[u32; N], figures: &mut [u32; N]) {
         let scaled = |n: u64| (n * PARTS).div_ceil(40_000);

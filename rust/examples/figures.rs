@@ -5,10 +5,12 @@
 //! cargo run --release --offline --manifest-path rust/Cargo.toml --example figures -- \
 //!     G0 2000-03-25 2000-03-26 3500 - examples/made_up.slp
 //! ```
-use std::path::Path;
+use std::ffi::OsString;
 use std::process::ExitCode;
 
-use slp::{date, files, group, program};
+use slp::{arguments, files};
+
+const USAGE: &str = "figures GROUP FIRST LAST KWH HOLIDAYS PROFILE";
 
 /// The figures of a request as lines.
 fn figures(request: &slp::Request) -> Result<String, slp::Refusal> {
@@ -51,29 +53,22 @@ fn date_text(date: u32) -> String {
 }
 
 /// The lines for the arguments, which are those of the tool `slp_request`.
-fn lines(arguments: &[String]) -> Result<String, String> {
-    let [name, first, last, kwh, holidays, profile] = arguments else {
-        return Err("usage: figures GROUP FIRST LAST KWH HOLIDAYS PROFILE".into());
-    };
-    let parsed = |text: &str| date::parse(text).ok_or_else(|| date::misshapen(text));
-    let holidays = match holidays.as_str() {
-        "-" => Vec::new(),
-        path => date::parse_list(&files::read_text(Path::new(path))?)?,
-    };
+fn lines(arguments: &[OsString]) -> Result<String, String> {
+    let input = arguments::input(arguments, USAGE)?;
     let request = slp::Request {
-        file: &files::read(Path::new(profile), slp::file_length(group::NAMES.len()))?,
-        group: group::code_of(name).ok_or_else(|| group::unknown(name))?,
-        first: parsed(first)?,
-        last: parsed(last)?,
-        holidays: &holidays,
-        yearly: program::parse_number(kwh).ok_or("KWH is no whole number")?,
+        file: &input.file,
+        group: input.group,
+        first: input.first,
+        last: input.last,
+        holidays: &input.holidays,
+        yearly: input.yearly,
         carry: 0,
     };
     figures(&request).map_err(|refusal| refusal.to_string())
 }
 
 fn main() -> ExitCode {
-    let arguments: Vec<String> = std::env::args().skip(1).collect();
+    let arguments: Vec<OsString> = std::env::args_os().skip(1).collect();
     match lines(&arguments).and_then(|text| files::send(text.as_bytes())) {
         Ok(()) => ExitCode::SUCCESS,
         Err(what) => {

@@ -152,8 +152,12 @@ fn end_of(row: usize) -> String {
 
 /// Tenths of a watt.
 fn parse_watts(field: &str) -> Result<u16, String> {
-    let tenths = tenths_of(field)
-        .ok_or_else(|| format!("{} is no number of watts with one decimal", quoted(field)))?;
+    let tenths = tenths_of(field).ok_or_else(|| {
+        format!(
+            "{} is no number of watts with at most one decimal",
+            quoted(field)
+        )
+    })?;
     if tenths > LARGEST {
         let field = quoted(field);
         return Err(format!("{field} is above 2000.0 W, the largest value"));
@@ -275,7 +279,7 @@ mod tests {
         let value = with_line(3, "00:30;1,0;1,0;1,0;1,0;one;1,0;1,0;1,0;1,0");
         assert_eq!(
             fault_of(&value),
-            "line 3, column 6: \"one\" is no number of watts with one decimal"
+            "line 3, column 6: \"one\" is no number of watts with at most one decimal"
         );
         let time = with_line(3, "00:45;1,0;1,0;1,0;1,0;1,0;1,0;1,0;1,0;1,0");
         assert_eq!(

@@ -27,6 +27,7 @@
 //! # Ok::<(), slp::Refusal>(())
 //! ```
 
+pub mod arguments;
 pub mod csv;
 pub mod date;
 pub mod files;

@@ -48,11 +48,15 @@ fn request_with(argument: usize, text: &str) -> Output {
 fn a_request_takes_six_arguments() {
     expect_refused(
         slp_request(&[]),
-        &["0 arguments", "usage: slp_request", "0 to 1000000000"],
+        &[
+            "6 arguments are needed, not 0",
+            "usage: slp_request",
+            "0 to 1000000000",
+        ],
     );
     expect_refused(
         slp_request(&["G0"; 7]),
-        &["7 arguments", "usage: slp_request"],
+        &["6 arguments are needed, not 7", "usage: slp_request"],
     );
 }
 
@@ -87,7 +91,7 @@ fn a_request_refuses_numbers_that_do_not_fit() {
                 "KWH",
                 &format!("{kwh:?}"),
                 "0 to 1000000000",
-                "no separators",
+                "without separators",
             ],
         );
     }

@@ -1,4 +1,4 @@
--- A sum kept in parts of 2^38 Wh: which sum of document 01 it stands for, and by how much it is above that sum. Assumes nothing.
+-- A sum kept in parts of 1/2^38 Wh: which sum of document 01 it stands for, and by how much it is above that sum. Assumes nothing.
 use mathlib.Core.Path.{_≡_}
 use mathlib.Core.List.{List}
 use Prim.Native.Nat.{ℕ, _+_, _-_, _*_, _/_, _%_, _^_, _≤_, _<_}

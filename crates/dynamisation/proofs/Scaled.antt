@@ -1,11 +1,11 @@
--- A power by a factor in parts of 2^30: the same quotient as Q. Assumes nothing.
+-- A power by a factor in parts of 1/2^30: the same quotient as Q. Assumes nothing.
 use mathlib.Core.Path.{_≡_}
 use Prim.Native.Nat.{ℕ, _+_, _*_, _/_, _≤_}
 use native.Mathlib.Nat.{mul-le-mul}
 use native.Mathlib.Omega.{arith}
 use Rattle.dynamisation.specs.Dynamisation.{Q}
 
--- a factor in parts of 2^30, rounded up
+-- a factor in parts of 1/2^30, rounded up
 abbrev pub scaled : ℕ → ℕ
 scaled f = (f * 1_073_741_824 + 9_999) / 10_000
 

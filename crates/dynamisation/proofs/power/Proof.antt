@@ -1,4 +1,4 @@
--- `dynamisation::power` meets its contract: P × 10,000 / 10,000 is P; another factor in parts of 2^30 gives the same quotient as Q
+-- `dynamisation::power` meets its contract: P × 10,000 / 10,000 is P; another factor in parts of 1/2^30 gives the same quotient as Q
 -- (proofs/Scaled.antt), and no step wraps. Assumes nothing.
 use mathlib.Core.Path.{_≡_}
 use Prim.Native.Nat.{ℕ}
