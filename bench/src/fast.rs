@@ -272,9 +272,9 @@ impl Run {
         self.total += u64::from(before);
     }
 
-    /// For any yearly use: the quotients two at a time as floats. First every second sum is
-    /// made, which is all that waits for the one before; then the sums between them and the quotients of both. The sums begin
-    /// with 40,000, so the quotients with 1.
+    /// For any yearly use: the quotients two at a time as floats. First every second sum is made, which is all that waits for
+    /// the one before; then the sums between them and the quotients of both. The sums begin with 40,000, so the quotients with
+    /// 1.
     fn store_in_floats<const N: usize>(&mut self, powers: &[u32; N], figures: &mut [u32; N]) {
         let energy = |power: u32| u64::from(power) * u64::from(self.yearly);
         let (powers, _) = powers.as_chunks::<2>();

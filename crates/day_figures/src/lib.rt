@@ -71,8 +71,9 @@ fn carry_by_quotients(
 // 2^38: the parts of a watt hour in which `carry_by_parts` adds up.
 const PARTS: u64 = 274_877_906_944;
 
-// The same for a yearly use of at most 500,000 kWh. The carry and what a tenth of a watt comes to are turned into parts, rounded up:
-// a range's sum is then too large by less than 1/40,000 Wh, which changes no quotient, and a division by 2^38 is a shift.
+// The same as `carry_by_quotients` for a yearly use of at most 500,000 kWh, with which a day's sum in parts fits 64 bits. The carry,
+// and what a power of 0.1 W comes to in a quarter hour, are turned into parts, rounded up: a range's sum is then too large by less
+// than 1/40,000 Wh, which changes no quotient, and a division by 2^38 is a shift.
 fn carry_by_parts(
     powers: &[u32],
     from: usize,

@@ -11,6 +11,7 @@ pub fn run() {
         b"number, place, count, total, carry; the figures' least, greatest, sum; marks kept\n",
     );
     least_uses(&file, &mut out);
+    uses_in_parts(&file, &mut out);
     greatest_uses(&file, &mut out);
 }
 
@@ -19,6 +20,14 @@ fn least_uses(file: &[u8; crate::file::LENGTH], out: &mut [u32; marks::LENGTH]) 
     expanded(b"no use, H0:", file, 0, 0, 39_999, out);
     expanded(b"1 kWh, G0:", file, 1, 1, 39_999, out);
     expanded(b"1 kWh, H0:", file, 0, 1, 39_999, out);
+}
+
+// The greatest use for which sums are kept in parts, and the next one.
+fn uses_in_parts(file: &[u8; crate::file::LENGTH], out: &mut [u32; marks::LENGTH]) {
+    expanded(b"500,000 kWh, G0:", file, 1, 500_000, 39_999, out);
+    expanded(b"500,000 kWh, H0:", file, 0, 500_000, 39_999, out);
+    expanded(b"500,001 kWh, G0:", file, 1, 500_001, 39_999, out);
+    expanded(b"500,001 kWh, H0:", file, 0, 500_001, 39_999, out);
 }
 
 fn greatest_uses(file: &[u8; crate::file::LENGTH], out: &mut [u32; marks::LENGTH]) {

@@ -1,4 +1,4 @@
--- What the functions of this crate require, which expanding shows, and what one of its days comes to. No definition of document 01.
+-- What the functions of this crate require, which expanding and listing show, and what one of its days comes to. No definition of document 01.
 use mathlib.Core.Path.{_≡_}
 use mathlib.Core.Bool.{true}
 use mathlib.Core.List.{List, _++_}

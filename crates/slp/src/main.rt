@@ -5,9 +5,10 @@ use libc::STDERR_FILENO;
 use libc::STDIN_FILENO;
 use libc::STDOUT_FILENO;
 use response::Response;
+ghost use mathlib.Core.Path.{_≡_};
 ghost use Prim.Native.Nat.{_≤_};
-ghost use lib.ListN.{length};
-ghost use Rattle.response.specs.Response.{pageLength};
+ghost use lib.ListN.{length, take};
+ghost use Rattle.response.specs.Response.{pageLength, pageAfter};
 
 fn main() {
     // one byte more than an input may have, so that a longer one is told from the longest
@@ -32,10 +33,11 @@ fn at_end() -> bool {
     libc::read(STDIN_FILENO, &mut more) == 0
 }
 
-// Prints the response to the input's first bytes.
+// Prints the response to the input's first `count` bytes, which stands on the page then.
 fn print(input: &[u8], count: usize, page: &mut [u8])
     requires { ⌜ count ≤ length (now input) ⌝ }
     requires { ⌜ pageLength ≤ length (now page) ⌝ }
+    ensures { λ r. ⌜ now (page .exit) ≡ pageAfter (take count (now (input .entry))) (now (page .entry)) ⌝ }
 {
     let answer = response::respond(&input[0..count], page);
     let Response::Written(written) = answer else {

@@ -1,11 +1,21 @@
--- `slp::print` meets its contract: what was written lies on the page. Assumes nothing.
+-- `slp::print` meets its contract: the page is the response's, and what is written lies on it. Assumes nothing.
+use mathlib.Core.Path.{_≡_}
+use mathlib.Core.List.{List}
 use native.Mathlib.Omega.{arith}
 use borrow.Author.Needs.{needs}
-use Prim.Native.Nat.{_-_}
+use Prim.Native.Nat.{ℕ, _-_}
 use lib.ListN.{take}
+use Rattle.response.specs.Response.{pageAfter}
 use Rattle.response.proofs.Room.{inside}
 use Rattle.slp.proofs.print.Statement.{statement}
 use Rattle.slp.proofs.print.Tie as tie
+
+-- the page after the call, of the first bytes
+on-page : (s : tie.Start) {after : List ℕ} → after ≡ pageAfter (take (s .args .count - 0) (s .args .input .now)) (s .args .page .now) →
+    after ≡ pageAfter (take (s .args .count) (s .args .input .now)) (s .args .page .now)
+on-page s h =
+    let whole : s .args .count - 0 ≡ s .args .count = omega arith in
+    rw whole at h
 
 sub-respond : tie.Need-sub-respond
 sub-respond c = search needs
@@ -29,7 +39,9 @@ same-length : tie.Need-same-length
 same-length c = search needs
 
 returns : tie.Need-returns
-returns c = search needs
+returns c =
+    let called = c .before .before .before .before in
+    on-page (called .before .before .before .before .before) (called .respond .ensures .1)
 
 sub-write-all : tie.Need-sub-write-all
 sub-write-all c = search needs
@@ -57,13 +69,17 @@ same-length-2 : tie.Need-same-length-2
 same-length-2 c = search needs
 
 returns-2 : tie.Need-returns-2
-returns-2 c = search needs
+returns-2 c =
+    let called = c .before .before .before .before .before .before .before .before .before .before .before in
+    on-page (called .before .before .before .before .before) (called .respond .ensures .1)
 
 same-length-3 : tie.Need-same-length-3
 same-length-3 c = search needs
 
 returns-3 : tie.Need-returns-3
-returns-3 c = search needs
+returns-3 c =
+    let called = c .before .before .before .before .before .before .before .before .before in
+    on-page (called .before .before .before .before .before) (called .respond .ensures .1)
 
 pub print-spec : {M : Type 1} → statement M
 print-spec =
