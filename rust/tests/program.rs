@@ -1,9 +1,9 @@
-//! The built program, `target/bin/slp`: every byte that it prints is held to the second implementation, and its reading and
+//! The built program, `target/bin/slp`: every byte that it prints is held to the reference, and its reading and
 //! writing are tried with long inputs, slow pipes, failing reads and failing writes.
-#[allow(dead_code)] // against_reference.rs uses the rest
-mod draw;
+#[allow(dead_code)] // the tests of the calls use the rest
+mod agreed;
 #[allow(dead_code)] // likewise
-mod reference;
+mod draw;
 mod repository;
 mod tally;
 
@@ -59,9 +59,9 @@ fn text_for(input: &[u8]) -> String {
     printed(child.wait_with_output().unwrap())
 }
 
-/// The program prints what the second implementation does. A difference is shown by the lengths and the first lines that differ.
+/// The program prints what the reference does. A difference is shown by the lengths and the first lines that differ.
 fn expect_agreement(input: &[u8], what: &str) -> String {
-    let (found, wanted) = (text_for(input), reference::program(input));
+    let (found, wanted) = (text_for(input), reference::program::text(input));
     let differ = found.lines().zip(wanted.lines()).find(|(f, w)| f != w);
     let lengths = (found.len(), wanted.len());
     assert!(found == wanted, "{what}: {lengths:?} bytes, {differ:?}");
@@ -83,15 +83,14 @@ fn constant_file(last: u8, value: u16) -> Vec<u8> {
     let mut file = vec![b'S', b'L', b'P', 0, 1, last + 1];
     for code in 0..=last {
         file.push(code);
-        file.extend(value.to_be_bytes().repeat(reference::VALUES));
+        file.extend(value.to_be_bytes().repeat(reference::file::VALUES));
     }
     file
 }
 
 fn dates(first: u32, days: usize) -> Vec<u32> {
-    let first = reference::index_of(first).unwrap();
-    let days = &reference::span()[first..first + days];
-    days.iter().map(|day| day.number).collect()
+    let first = draw::index_of(first).unwrap();
+    (first..first + days).map(draw::date_at).collect()
 }
 
 // Random inputs.
@@ -102,7 +101,7 @@ fn drawn_period(draw: &mut Draw) -> (usize, usize) {
         return draw::period(draw);
     }
     let days = draw.pick(&[1_461, 1_461, 1_461, 1_460, 366, 1_462]);
-    let first = draw.between(0, reference::span().len() - days);
+    let first = draw.between(0, draw::span().len() - days);
     (first, first + days - 1)
 }
 
@@ -149,7 +148,7 @@ fn random_inputs_agree() {
     for seed in 0..INPUTS {
         let input = drawn_input(&mut Draw::new(7_000_000 + seed));
         let text = expect_agreement(&input, &format!("seed {seed}"));
-        tally.note(&reference::listing(&input));
+        tally.note(&reference::program::listing(&input));
         longest += u32::from(text.lines().count() == 1_462);
         short_days += u32::from(text.contains(" T3 92 "));
         long_days += u32::from(text.contains(" T3 100 "));

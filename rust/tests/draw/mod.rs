@@ -1,5 +1,8 @@
 //! Random inputs, from a generator with fixed seeds: mostly good ones, and damage of every kind that a question asks about.
-use crate::reference::{self, HEAD, LARGEST_VALUE, PROFILE, VALUES};
+use std::sync::OnceLock;
+
+use reference::calendar::{self, Day};
+use reference::file::{HEAD, LARGEST_VALUE, PROFILE, VALUES};
 
 /// xorshift64*.
 pub struct Draw(u64);
@@ -241,23 +244,40 @@ pub fn output_length(draw: &mut Draw, needed: usize) -> usize {
 
 // Dates and lists.
 
+/// All days from 1996-01-01 to 2099-12-31.
+pub fn span() -> &'static [Day] {
+    static SPAN: OnceLock<Vec<Day>> = OnceLock::new();
+    SPAN.get_or_init(|| calendar::span().collect())
+}
+
+/// Where a date stands in the span, if it does.
+pub fn index_of(date: u32) -> Option<usize> {
+    calendar::day_of(date).map(|day| day.number as usize)
+}
+
+/// How many values the days have.
+pub fn values_of(days: &[Day]) -> usize {
+    days.iter().map(|day| day.values()).sum()
+}
+
 const MARKED: [u32; 12] = [
     101, 228, 301, 320, 328, 514, 914, 1028, 1031, 1224, 1226, 1231,
 ];
 
 /// The index of a day of the span, half of them near a day on which something changes.
 pub fn day_index(draw: &mut Draw) -> usize {
-    let last = reference::span().len() - 1;
+    let last = span().len() - 1;
     if draw.chance(50) {
         return draw.between(0, last);
     }
     let date = 10_000 * draw.between(1996, 2099) as u32 + draw.pick(&MARKED);
-    let near = reference::index_of(date).expect("the marked days are real") + draw.below(9);
+    let near = index_of(date).expect("the marked days are real") + draw.below(9);
     near.saturating_sub(4).min(last)
 }
 
-fn date_at(index: usize) -> u32 {
-    reference::span()[index].number
+/// The date of a day of the span.
+pub fn date_at(index: usize) -> u32 {
+    span()[index].date()
 }
 
 /// A number that is mostly no date of the span.
@@ -295,7 +315,7 @@ pub fn period(draw: &mut Draw) -> (usize, usize) {
         61..=300 => 1,
         _ => draw.between(2, 6),
     };
-    let first = day_index(draw).min(reference::span().len() - days);
+    let first = day_index(draw).min(span().len() - days);
     let last = first + days - 1;
     if draw.chance(2) {
         (last, first)
@@ -315,7 +335,7 @@ pub fn list(draw: &mut Draw, near: usize) -> Vec<u32> {
         _ => draw.pick(&[401, 402, 450]),
     };
     let (step, before) = (draw.between(1, 3), draw.below(length + 4));
-    let room = reference::span().len() - step * length - 1;
+    let room = span().len() - step * length - 1;
     let start = near.saturating_sub(before).min(room);
     let mut index = start;
     let mut list = Vec::new();

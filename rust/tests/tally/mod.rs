@@ -1,7 +1,9 @@
 //! Counts of random inputs by the question that refused them, which show that each way out of a call was taken.
 use std::collections::{BTreeMap, BTreeSet};
 
-use crate::reference::No;
+use reference::Refusal;
+
+use crate::agreed::number_and_place;
 
 /// How many inputs each question refused (number 0: none did), and at how many places.
 #[derive(Default)]
@@ -11,8 +13,8 @@ pub struct Tally {
 }
 
 impl Tally {
-    pub fn note<T>(&mut self, answer: &Result<T, No>) {
-        let (number, place) = figures(answer);
+    pub fn note<T>(&mut self, answer: &Result<T, Refusal>) {
+        let (number, place) = number_and_place(answer);
         *self.inputs.entry(number).or_default() += 1;
         self.places.entry(number).or_default().insert(place);
     }
@@ -37,13 +39,5 @@ impl Tally {
     pub fn expect_many_places(&self, number: u32, at_least: usize) {
         let found = &self.places[&number];
         assert!(found.len() >= at_least, "question {number}: {found:?}");
-    }
-}
-
-/// Number and place of an answer, both 0 where it is no refusal.
-pub fn figures<T>(answer: &Result<T, No>) -> (u32, usize) {
-    match answer {
-        Ok(_) => (0, 0),
-        Err(no) => (no.number, no.place),
     }
 }

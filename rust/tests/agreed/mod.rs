@@ -1,0 +1,237 @@
+//! Each call made of the reference and of the proved library, of the latter both as a report and as a `Result`. The answers must be
+//! the same, and so must the lent memory after the call. After a refusal that memory holds its old content throughout, after an
+//! accepted call beyond the entries that it fills. The answer is the reference's; `what` names the case in a failure.
+use std::fmt::{Arguments, Debug};
+
+use reference::file::{HEAD, PROFILE, VALUES};
+use reference::{DayAnswer, Expansion, Refusal};
+use slp::report::{CheckReport, ComparisonReport, DayReport, ExpansionReport, LocatedPart};
+use slp::{DayType, Request, Season};
+
+/// A refusal, as a test expects it.
+pub fn refused<T>(number: u32, place: usize) -> Result<T, Refusal> {
+    Err(Refusal { number, place })
+}
+
+/// Number and place of an answer, both 0 where it is no refusal.
+pub fn number_and_place<T>(answer: &Result<T, Refusal>) -> (u32, usize) {
+    match answer {
+        Ok(_) => (0, 0),
+        Err(no) => (no.number, no.place),
+    }
+}
+
+fn check_report(answer: &Result<(), Refusal>) -> CheckReport {
+    let (number, place) = number_and_place(answer);
+    CheckReport { number, place }
+}
+
+/// The reference's answer as the package's root gives it.
+fn result<T>(answer: Result<T, Refusal>) -> Result<T, slp::Refusal> {
+    answer.map_err(|Refusal { number, place }| slp::Refusal { number, place })
+}
+
+// Lent memory.
+
+/// Entries of the caller's own before and behind the lent ones.
+const AROUND: usize = 32;
+
+/// Makes a call that is lent a part of a larger memory, with this content before it and this one expected after it. The memory
+/// around that part must keep its content in any case.
+fn lend<T, A>(before: &[T], after: &[T], what: Arguments, call: impl FnOnce(&mut [T]) -> A) -> A
+where
+    T: Copy + PartialEq + Debug + From<u8>,
+{
+    let own = T::from(0xA5);
+    let end = AROUND + before.len();
+    let mut memory = vec![own; AROUND];
+    memory.extend(before);
+    memory.resize(end + AROUND, own);
+    let answer = call(&mut memory[AROUND..end]);
+    expect_memory(&memory[AROUND..end], after, what);
+    let around = memory[..AROUND].iter().chain(&memory[end..]);
+    assert!(
+        around.into_iter().all(|&entry| entry == own),
+        "{what}: the call wrote to memory that it was not lent"
+    );
+    answer
+}
+
+/// A difference is shown by the first entry that differs.
+pub fn expect_memory<T: PartialEq + Debug>(found: &[T], expected: &[T], what: Arguments) {
+    assert_eq!(found.len(), expected.len(), "{what}");
+    if found != expected {
+        let mut pairs = found.iter().zip(expected).enumerate();
+        let differs = pairs.find(|(_, (found, expected))| found != expected);
+        panic!("{what}: the first entry that differs (found, expected): {differs:?}");
+    }
+}
+
+/// What an answer leaves of the lent memory's old content: all of it, or what lies beyond the filled entries.
+fn expect_kept<T: PartialEq + Debug, A>(
+    before: &[T],
+    after: &[T],
+    answer: &Result<A, Refusal>,
+    filled: usize,
+    what: Arguments,
+) {
+    let from = if answer.is_ok() { filled } else { 0 };
+    expect_memory(&after[from..], &before[from..], what);
+}
+
+// The calls.
+
+pub fn check(file: &[u8], group: u8, what: Arguments) -> Result<(), Refusal> {
+    let answer = reference::check(file, group);
+    let report = slp::report::check(file, group);
+    assert_eq!(report, check_report(&answer), "{what}");
+    assert_eq!(slp::check(file, group), result(answer), "{what}");
+    answer
+}
+
+/// The located part is held to the reference's as a place of the file, and so by its bytes too.
+pub fn locate<'a>(file: &'a [u8], group: u8, what: Arguments) -> &'a [u8] {
+    let part = reference::locate(file, group);
+    let report = LocatedPart {
+        offset: part.as_ptr() as usize - file.as_ptr() as usize,
+        length: part.len(),
+    };
+    assert_eq!(slp::report::locate(file, group), report, "{what}");
+    match slp::locate(file, group) {
+        Some(found) => assert!(std::ptr::eq(found, part), "{what}"),
+        None => assert!(part.is_empty(), "{what}"),
+    }
+    part
+}
+
+pub fn read(file: &[u8], group: u8, table: &mut [u16], what: Arguments) -> Result<(), Refusal> {
+    let before = table.to_vec();
+    let answer = reference::read(file, group, table);
+    let report = lend(&before, table, what, |table| {
+        slp::report::read(file, group, table)
+    });
+    assert_eq!(report, check_report(&answer), "{what}");
+    let found = lend(&before, table, what, |table| slp::read(file, group, table));
+    assert_eq!(found, result(answer), "{what}");
+    expect_kept(&before, table, &answer, VALUES, what);
+    answer
+}
+
+pub fn write(
+    codes: &[u8],
+    values: &[u16],
+    buffer: &mut [u8],
+    what: Arguments,
+) -> Result<(), Refusal> {
+    let before = buffer.to_vec();
+    let answer = reference::write(codes, values, buffer);
+    let report = lend(&before, buffer, what, |buffer| {
+        slp::report::write(codes, values, buffer)
+    });
+    assert_eq!(report, check_report(&answer), "{what}");
+    let found = lend(&before, buffer, what, |buffer| {
+        slp::write(codes, values, buffer)
+    });
+    assert_eq!(found, result(answer), "{what}");
+    expect_kept(&before, buffer, &answer, HEAD + PROFILE * codes.len(), what);
+    answer
+}
+
+pub fn compare(file: &[u8], first: u8, second: u8, what: Arguments) -> Result<bool, Refusal> {
+    let answer = reference::compare(file, first, second);
+    let (number, place) = number_and_place(&answer);
+    let report = ComparisonReport {
+        number,
+        place,
+        alike: u32::from(answer == Ok(true)),
+    };
+    assert_eq!(slp::report::compare(file, first, second), report, "{what}");
+    assert_eq!(slp::compare(file, first, second), result(answer), "{what}");
+    answer
+}
+
+fn day_report(answer: &Result<DayAnswer, Refusal>) -> DayReport {
+    let (number, place) = number_and_place(answer);
+    let of = |field: fn(&DayAnswer) -> u32| answer.as_ref().map_or(0, field);
+    DayReport {
+        number,
+        place,
+        weekday: of(|day| day.weekday),
+        t: of(|day| day.t),
+        season: of(|day| day.season as u32 + 1),
+        day_type: of(|day| day.day_type as u32 + 1),
+        values: of(|day| day.values as u32),
+    }
+}
+
+fn package_day(day: DayAnswer) -> slp::Day {
+    slp::Day {
+        weekday: day.weekday,
+        t: day.t,
+        season: match day.season {
+            reference::Season::Winter => Season::Winter,
+            reference::Season::Summer => Season::Summer,
+            reference::Season::Transition => Season::Transition,
+        },
+        day_type: match day.day_type {
+            reference::DayType::Weekday => DayType::Weekday,
+            reference::DayType::Saturday => DayType::Saturday,
+            reference::DayType::Sunday => DayType::Sunday,
+        },
+        values: day.values as u32,
+    }
+}
+
+pub fn day(date: u32, holidays: &[u32], what: Arguments) -> Result<DayAnswer, Refusal> {
+    let answer = reference::day(date, holidays);
+    let report = slp::report::day(date, holidays);
+    assert_eq!(report, day_report(&answer), "{what}");
+    let found = slp::day(date, holidays);
+    assert_eq!(found, result(answer.map(package_day)), "{what}");
+    answer
+}
+
+/// The request, for the reference.
+pub fn reference_request<'a>(request: &Request<'a>) -> reference::Request<'a> {
+    reference::Request {
+        file: request.file,
+        group: request.group,
+        first: request.first,
+        last: request.last,
+        holidays: request.holidays,
+        yearly: request.yearly,
+        carry: request.carry,
+    }
+}
+
+fn expansion_report(answer: &Result<Expansion, Refusal>) -> ExpansionReport {
+    let (number, place) = number_and_place(answer);
+    let made = answer.as_ref();
+    ExpansionReport {
+        number,
+        place,
+        count: made.map_or(0, |made| made.count),
+        total: made.map_or(0, |made| made.total),
+        carry: made.map_or(0, |made| made.carry),
+    }
+}
+
+fn package_expansion(made: Expansion) -> slp::Expansion {
+    slp::Expansion {
+        count: made.count,
+        total: made.total,
+        carry: made.carry,
+    }
+}
+
+pub fn expand(request: &Request, out: &mut [u32], what: Arguments) -> Result<Expansion, Refusal> {
+    let before = out.to_vec();
+    let answer = reference::expand(&reference_request(request), out);
+    let report = lend(&before, out, what, |out| slp::report::expand(request, out));
+    assert_eq!(report, expansion_report(&answer), "{what}");
+    let found = lend(&before, out, what, |out| slp::expand(request, out));
+    assert_eq!(found, result(answer.map(package_expansion)), "{what}");
+    let filled = answer.map_or(0, |made| made.count);
+    expect_kept(&before, out, &answer, filled, what);
+    answer
+}
