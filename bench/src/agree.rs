@@ -1,7 +1,7 @@
 //! Holds all ways to the proved calls, the lent memory included: on the timed inputs, and on random ones, whole and damaged.
+use reference::calendar::{day_of, Day};
 use slp::{file_length, Refusal, Request, GROUP_VALUES};
 
-use crate::calendar::{day_of, Day};
 use crate::calls::{Answer, Calls, Work, ALL, PROVED};
 use crate::inputs::Inputs;
 use crate::lines::LINES;

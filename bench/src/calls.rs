@@ -1,7 +1,7 @@
 //! The calls that are compared, for each implementation, and what they are lent and answer.
 use slp::{Expansion, Refusal, Request};
 
-use crate::{fast, kept, plain};
+use crate::{fast, kept};
 
 pub type Answer = Result<(), Refusal>;
 
@@ -21,13 +21,40 @@ pub static PROVED: Calls = Calls {
     expand: slp::expand,
 };
 
+/// The reference: the plain safe Rust that an engineer would write from document 01, carry step by carry step.
 pub static PLAIN: Calls = Calls {
     name: "plain",
-    check: plain::check,
-    read: plain::read,
-    write: plain::write,
-    expand: plain::expand,
+    check: |file, group| reference::check(file, group).map_err(refusal),
+    read: |file, group, table| reference::read(file, group, table).map_err(refusal),
+    write: |codes, values, buffer| reference::write(codes, values, buffer).map_err(refusal),
+    expand: |request, out| {
+        let made = reference::expand(&reference_request(request), out).map_err(refusal)?;
+        Ok(Expansion {
+            count: made.count,
+            total: made.total,
+            carry: made.carry,
+        })
+    },
 };
+
+fn refusal(no: reference::Refusal) -> Refusal {
+    Refusal {
+        number: no.number,
+        place: no.place,
+    }
+}
+
+fn reference_request<'a>(request: &Request<'a>) -> reference::Request<'a> {
+    reference::Request {
+        file: request.file,
+        group: request.group,
+        first: request.first,
+        last: request.last,
+        holidays: request.holidays,
+        yearly: request.yearly,
+        carry: request.carry,
+    }
+}
 
 pub static FAST: Calls = Calls {
     name: "fast",

@@ -1,5 +1,5 @@
 //! The days of a period for the fast baseline: what the series needs of each, by one look into a table of the year.
-use crate::calendar::Day;
+use reference::calendar::Day;
 
 /// What a place of the calendar fixes, whatever the year.
 #[derive(Clone, Copy)]

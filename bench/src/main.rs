@@ -1,14 +1,12 @@
 //! Measures the proved calls beside two baselines in safe Rust, alternating, in one run. docs/PERFORMANCE.md has the command
 //! and what was measured.
 mod agree;
-mod calendar;
 mod calls;
 mod days;
 mod fast;
 mod inputs;
 mod kept;
 mod lines;
-mod plain;
 mod program;
 mod random;
 mod table;
