@@ -3,6 +3,8 @@
 #[allow(dead_code)] // the other tests use the rest
 mod agreed;
 mod draw;
+#[allow(dead_code)] // likewise
+mod profile_file;
 mod tally;
 
 use std::collections::BTreeSet;
@@ -20,7 +22,7 @@ fn check() {
         let mut draw = Draw::new(seed);
         let (file, codes) = draw::file(&mut draw, 40);
         let group = draw::group(&mut draw, &codes);
-        tally.note(&agreed::check(&file, group, format_args!("seed {seed}")));
+        tally.note(&agreed::check(&file, group, &format!("seed {seed}")));
     }
     tally.expect("check", &[1, 2, 3, 4, 5, 6], 50);
     tally.expect_places(4, &(0..11).map(|i| 6 + 1729 * i).collect::<Vec<_>>());
@@ -35,7 +37,7 @@ fn locate() {
         let mut draw = Draw::new(1_000_000 + seed);
         let (file, codes) = draw::file(&mut draw, 40);
         let group = draw::group(&mut draw, &codes);
-        let part = agreed::locate(&file, group, format_args!("seed {seed}"));
+        let part = agreed::locate(&file, group, &format!("seed {seed}"));
         let answer = reference::check(&file, group);
         assert_eq!(
             part.len(),
@@ -56,7 +58,7 @@ fn read() {
         let group = draw::group(&mut draw, &codes);
         let length = draw::output_length(&mut draw, 864);
         let mut table: Vec<u16> = (0..length).map(|_| draw.word() as u16).collect();
-        let what = format_args!("seed {seed}");
+        let what = &format!("seed {seed}");
         tally.note(&agreed::read(&file, group, &mut table, what));
     }
     tally.expect("read", &[1, 2, 3, 4, 5, 6, 12], 50);
@@ -71,7 +73,7 @@ fn write() {
         let (codes, values) = draw::contents(&mut draw);
         let length = draw::output_length(&mut draw, 6 + 1729 * codes.len());
         let mut buffer: Vec<u8> = (0..length).map(|_| draw.byte()).collect();
-        let what = format_args!("seed {seed}");
+        let what = &format!("seed {seed}");
         tally.note(&agreed::write(&codes, &values, &mut buffer, what));
     }
     tally.expect("write", &[3, 4, 5, 12], 50);
@@ -89,7 +91,7 @@ fn compare() {
         let (file, codes) = draw::file(&mut draw, 35);
         let first = draw::group(&mut draw, &codes);
         let second = draw::group(&mut draw, &codes);
-        let answer = agreed::compare(&file, first, second, format_args!("seed {seed}"));
+        let answer = agreed::compare(&file, first, second, &format!("seed {seed}"));
         tally.note(&answer);
         if first != second {
             alike += u32::from(answer == Ok(true));
@@ -113,7 +115,7 @@ fn day() {
         let index = draw::day_index(&mut draw);
         let date = draw::date(&mut draw, index, 10);
         let holidays = draw::list(&mut draw, index);
-        let answer = agreed::day(date, &holidays, format_args!("seed {seed}"));
+        let answer = agreed::day(date, &holidays, &format!("seed {seed}"));
         tally.note(&answer);
         kinds.extend(answer.map(|day| (day.season, day.day_type, day.values)));
     }
@@ -132,7 +134,7 @@ fn every_day_of_the_span() {
     for day in draw::span() {
         let date = day.date();
         for holidays in [&[][..], &[date]] {
-            let answer = agreed::day(date, holidays, format_args!("{date}"));
+            let answer = agreed::day(date, holidays, &format!("{date}"));
             assert!(answer.is_ok(), "{date}");
         }
     }
@@ -166,7 +168,7 @@ fn expand() {
         };
         let length = draw::output_length(&mut draw, needed(first, last));
         let mut out: Vec<u32> = (0..length).map(|_| draw.word()).collect();
-        let answer = agreed::expand(&request, &mut out, format_args!("seed {seed}"));
+        let answer = agreed::expand(&request, &mut out, &format!("seed {seed}"));
         tally.note(&answer);
         if let Ok(made) = answer {
             households += u32::from(request.group == 0);
@@ -199,7 +201,7 @@ fn every_power_on_every_day() {
             carry: 0,
         };
         let mut out = vec![0; 35_136];
-        let answer = agreed::expand(&request, &mut out, format_args!("values from {start}"));
+        let answer = agreed::expand(&request, &mut out, &format!("values from {start}"));
         assert_eq!(answer.map(|made| made.count), Ok(35_136));
     }
 }

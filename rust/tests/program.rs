@@ -4,6 +4,8 @@
 mod agreed;
 #[allow(dead_code)] // likewise
 mod draw;
+#[allow(dead_code)] // likewise
+mod profile_file;
 mod repository;
 mod tally;
 
@@ -80,12 +82,8 @@ fn input(group: u8, numbers: [u32; 3], holidays: &[u32], file: &[u8]) -> Vec<u8>
 
 /// A file of the groups from H0 up to `last`, with one value throughout.
 fn constant_file(last: u8, value: u16) -> Vec<u8> {
-    let mut file = vec![b'S', b'L', b'P', 0, 1, last + 1];
-    for code in 0..=last {
-        file.push(code);
-        file.extend(value.to_be_bytes().repeat(reference::file::VALUES));
-    }
-    file
+    let codes: Vec<u8> = (0..=last).collect();
+    profile_file::of(&codes, &vec![value; reference::file::VALUES * codes.len()])
 }
 
 fn dates(first: u32, days: usize) -> Vec<u32> {

@@ -1,7 +1,7 @@
 //! Each call made of the reference and of the proved library, of the latter both as a report and as a `Result`. The answers must be
 //! the same, and so must the lent memory after the call. After a refusal that memory holds its old content throughout, after an
 //! accepted call beyond the entries that it fills. The answer is the reference's; `what` names the case in a failure.
-use std::fmt::{Arguments, Debug};
+use std::fmt::Debug;
 
 use reference::file::{HEAD, PROFILE, VALUES};
 use reference::{DayAnswer, Expansion, Refusal};
@@ -38,7 +38,7 @@ const AROUND: usize = 32;
 
 /// Makes a call that is lent a part of a larger memory, with this content before it and this one expected after it. The memory
 /// around that part must keep its content in any case.
-fn lend<T, A>(before: &[T], after: &[T], what: Arguments, call: impl FnOnce(&mut [T]) -> A) -> A
+fn lend<T, A>(before: &[T], after: &[T], what: &str, call: impl FnOnce(&mut [T]) -> A) -> A
 where
     T: Copy + PartialEq + Debug + From<u8>,
 {
@@ -58,7 +58,7 @@ where
 }
 
 /// A difference is shown by the first entry that differs.
-pub fn expect_memory<T: PartialEq + Debug>(found: &[T], expected: &[T], what: Arguments) {
+pub fn expect_memory<T: PartialEq + Debug>(found: &[T], expected: &[T], what: &str) {
     assert_eq!(found.len(), expected.len(), "{what}");
     if found != expected {
         let mut pairs = found.iter().zip(expected).enumerate();
@@ -73,7 +73,7 @@ fn expect_kept<T: PartialEq + Debug, A>(
     after: &[T],
     answer: &Result<A, Refusal>,
     filled: usize,
-    what: Arguments,
+    what: &str,
 ) {
     let from = if answer.is_ok() { filled } else { 0 };
     expect_memory(&after[from..], &before[from..], what);
@@ -81,7 +81,7 @@ fn expect_kept<T: PartialEq + Debug, A>(
 
 // The calls.
 
-pub fn check(file: &[u8], group: u8, what: Arguments) -> Result<(), Refusal> {
+pub fn check(file: &[u8], group: u8, what: &str) -> Result<(), Refusal> {
     let answer = reference::check(file, group);
     let report = slp::report::check(file, group);
     assert_eq!(report, check_report(&answer), "{what}");
@@ -90,7 +90,7 @@ pub fn check(file: &[u8], group: u8, what: Arguments) -> Result<(), Refusal> {
 }
 
 /// The located part is held to the reference's as a place of the file, and so by its bytes too.
-pub fn locate<'a>(file: &'a [u8], group: u8, what: Arguments) -> &'a [u8] {
+pub fn locate<'a>(file: &'a [u8], group: u8, what: &str) -> &'a [u8] {
     let part = reference::locate(file, group);
     let report = LocatedPart {
         offset: part.as_ptr() as usize - file.as_ptr() as usize,
@@ -104,7 +104,7 @@ pub fn locate<'a>(file: &'a [u8], group: u8, what: Arguments) -> &'a [u8] {
     part
 }
 
-pub fn read(file: &[u8], group: u8, table: &mut [u16], what: Arguments) -> Result<(), Refusal> {
+pub fn read(file: &[u8], group: u8, table: &mut [u16], what: &str) -> Result<(), Refusal> {
     let before = table.to_vec();
     let answer = reference::read(file, group, table);
     let report = lend(&before, table, what, |table| {
@@ -117,12 +117,7 @@ pub fn read(file: &[u8], group: u8, table: &mut [u16], what: Arguments) -> Resul
     answer
 }
 
-pub fn write(
-    codes: &[u8],
-    values: &[u16],
-    buffer: &mut [u8],
-    what: Arguments,
-) -> Result<(), Refusal> {
+pub fn write(codes: &[u8], values: &[u16], buffer: &mut [u8], what: &str) -> Result<(), Refusal> {
     let before = buffer.to_vec();
     let answer = reference::write(codes, values, buffer);
     let report = lend(&before, buffer, what, |buffer| {
@@ -137,7 +132,7 @@ pub fn write(
     answer
 }
 
-pub fn compare(file: &[u8], first: u8, second: u8, what: Arguments) -> Result<bool, Refusal> {
+pub fn compare(file: &[u8], first: u8, second: u8, what: &str) -> Result<bool, Refusal> {
     let answer = reference::compare(file, first, second);
     let (number, place) = number_and_place(&answer);
     let report = ComparisonReport {
@@ -182,7 +177,7 @@ fn package_day(day: DayAnswer) -> slp::Day {
     }
 }
 
-pub fn day(date: u32, holidays: &[u32], what: Arguments) -> Result<DayAnswer, Refusal> {
+pub fn day(date: u32, holidays: &[u32], what: &str) -> Result<DayAnswer, Refusal> {
     let answer = reference::day(date, holidays);
     let report = slp::report::day(date, holidays);
     assert_eq!(report, day_report(&answer), "{what}");
@@ -224,7 +219,7 @@ fn package_expansion(made: Expansion) -> slp::Expansion {
     }
 }
 
-pub fn expand(request: &Request, out: &mut [u32], what: Arguments) -> Result<Expansion, Refusal> {
+pub fn expand(request: &Request, out: &mut [u32], what: &str) -> Result<Expansion, Refusal> {
     let before = out.to_vec();
     let answer = reference::expand(&reference_request(request), out);
     let report = lend(&before, out, what, |out| slp::report::expand(request, out));

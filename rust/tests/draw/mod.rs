@@ -4,6 +4,8 @@ use std::sync::OnceLock;
 use reference::calendar::{self, Day};
 use reference::file::{HEAD, LARGEST_VALUE, PROFILE, VALUES};
 
+use crate::profile_file;
+
 /// xorshift64*.
 pub struct Draw(u64);
 
@@ -87,12 +89,7 @@ pub fn file(draw: &mut Draw, damaged: usize) -> (Vec<u8>, Vec<u8>) {
     if codes.len() > 1 && draw.chance(50) {
         copy_profile(draw, &mut values);
     }
-    let mut bytes = b"SLP\0\x01".to_vec();
-    bytes.push(codes.len() as u8);
-    for (code, profile) in codes.iter().zip(values.chunks(VALUES)) {
-        bytes.push(*code);
-        bytes.extend(profile.iter().flat_map(|value| value.to_be_bytes()));
-    }
+    let mut bytes = profile_file::of(&codes, &values);
     if draw.chance(damaged) {
         damage(draw, &mut bytes);
         if draw.chance(20) {
