@@ -1,4 +1,4 @@
-//! Baseline 2: the fastest safe Rust that we could write for the same answers, with a day's 96 powers laid out by value.
+//! The fast baseline: the fastest safe Rust that we could write for the same answers, with a day's 96 powers laid out by value.
 //! No division waits for the one before it, the loops run over arrays of fixed length, and most are written so that the
 //! compiler puts several entries into one register of x86-64.
 use reference::calendar::{day_of, is_date};
