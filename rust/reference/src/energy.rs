@@ -19,7 +19,8 @@ pub struct Quarter {
 impl Quarter {
     /// What the quarter hour adds to a run's exact energy: P x X x A.
     pub fn exact(self, yearly: u32) -> u128 {
-        u128::from(self.p) * self.x.unsigned_abs() as u128 * u128::from(yearly)
+        let x = u128::try_from(self.x).expect("X is above 0");
+        u128::from(self.p) * x * u128::from(yearly)
     }
 
     /// What the quarter hour adds to a run's bound beside the run's 1 Wh. For households these are its static energy,
