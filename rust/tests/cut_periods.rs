@@ -106,7 +106,7 @@ fn request<'a>(
 
 /// What was tried.
 #[derive(Debug, Default)]
-struct Tally {
+struct Tried {
     periods: usize,
     parts: usize,
     figures: usize,
@@ -116,8 +116,8 @@ struct Tally {
     small_uses: [(usize, usize); 2],
 }
 
-impl Tally {
-    fn note_period(&mut self, request: &Request, figures: usize) {
+impl Tried {
+    fn note(&mut self, request: &Request, figures: usize) {
         self.periods += 1;
         self.figures += figures;
         let (all, small) = &mut self.small_uses[usize::from(request.group != 0)];
@@ -132,7 +132,10 @@ impl Tally {
         }
     }
 
+    /// Each question refused some of the calls, of which one stands before the first part and one behind each.
     fn expect_each_refusal(&self) {
+        let refused: usize = self.refused.values().sum();
+        assert_eq!(refused, self.periods + self.parts, "{self:?}");
         assert!(self.refused.keys().copied().eq(1..=12), "{self:?}");
     }
 }
@@ -173,7 +176,7 @@ impl<'a> Joining<'a> {
 
     /// A call for some days that is refused by a question which is drawn: it leaves the figures so far and the entries beyond as
     /// they are, and its zeros are not handed on.
-    fn refuse(&mut self, draw: &mut Draw, days: Days, tally: &mut Tally) {
+    fn refuse(&mut self, draw: &mut Draw, days: Days, tried: &mut Tried) {
         let number = draw.between(1, 12);
         let mut request = days.of(&self.request, self.made.carry);
         let mut file = request.file.to_vec();
@@ -217,7 +220,7 @@ impl<'a> Joining<'a> {
         };
         let answer = agreed::expand(&request, &mut self.out[lent], self.what);
         assert_eq!(answer, refused(number as u32, place), "{}", self.what);
-        *tally.refused.entry(number as u32).or_default() += 1;
+        *tried.refused.entry(number as u32).or_default() += 1;
     }
 }
 
@@ -227,7 +230,7 @@ fn expect_joined(
     days: Days,
     cuts: &[usize],
     draw: &mut Draw,
-    tally: &mut Tally,
+    tried: &mut Tried,
 ) {
     let needed = days.values();
     let what = &format!(
@@ -239,15 +242,15 @@ fn expect_joined(
     assert_eq!(made.count, needed, "{what}");
 
     let mut joining = Joining::new(*request, needed + BEYOND, what);
-    joining.refuse(draw, days, tally);
+    joining.refuse(draw, days, tried);
     for part in days.cut(cuts) {
         joining.add(part, draw.chance(50));
-        joining.refuse(draw, part, tally);
-        tally.parts += 1;
+        joining.refuse(draw, part, tried);
+        tried.parts += 1;
     }
     assert_eq!(joining.made, made, "{what}");
     agreed::expect_memory(&joining.out, &whole, what);
-    tally.note_period(request, needed);
+    tried.note(request, needed);
 
     let quarters = quarters(&reference_request(request)).expect("the period is accepted");
     let figures = &joining.out[..needed];
@@ -364,7 +367,7 @@ fn cuts_around_days_at_which_something_changes() {
     let (file, holidays) = (file(), holidays());
     let lent = (&file[..], &holidays[..]);
     let mut draw = Draw::new(9_000_000);
-    let mut tally = Tally::default();
+    let mut tried = Tried::default();
     for (first, count, day) in AROUND_CHANGES {
         let first = draw::index_of(first).expect("a date of the span");
         for group in GROUPS {
@@ -372,17 +375,16 @@ fn cuts_around_days_at_which_something_changes() {
                 for yearly in yearly_uses(&mut draw) {
                     let days = Days { first, count };
                     let request = request(lent, days, group, yearly, carry(&mut draw));
-                    expect_joined(&request, days, cuts, &mut draw, &mut tally);
+                    expect_joined(&request, days, cuts, &mut draw, &mut tried);
                 }
             }
         }
     }
-    println!("{tally:?}");
-    assert_eq!((tally.periods, tally.parts), (432, 1_008));
-    assert_eq!(tally.figures, 6 * 2_963_520);
-    assert_eq!(tally.refused.values().sum::<usize>(), 432 + 1_008);
-    tally.expect_small_uses();
-    tally.expect_each_refusal();
+    println!("{tried:?}");
+    assert_eq!((tried.periods, tried.parts), (432, 1_008));
+    assert_eq!(tried.figures, 6 * 2_963_520);
+    tried.expect_small_uses();
+    tried.expect_each_refusal();
 }
 
 /// Any period of the span, with up to five cuts anywhere.
@@ -390,7 +392,7 @@ fn cuts_around_days_at_which_something_changes() {
 fn drawn_cuts_of_drawn_periods() {
     let (file, holidays) = (file(), holidays());
     let lent = (&file[..], &holidays[..]);
-    let mut tally = Tally::default();
+    let mut tried = Tried::default();
     for seed in 0..60 {
         let mut draw = Draw::new(10_000_000 + seed);
         let first = draw::day_index(&mut draw);
@@ -403,17 +405,17 @@ fn drawn_cuts_of_drawn_periods() {
         for yearly in yearly_uses(&mut draw) {
             let request = request(lent, days, group, yearly, carry(&mut draw));
             let cuts = drawn_cuts(&mut draw, days.count, 5);
-            expect_joined(&request, days, &cuts, &mut draw, &mut tally);
+            expect_joined(&request, days, &cuts, &mut draw, &mut tried);
         }
     }
-    println!("{tally:?}");
-    assert_eq!(tally.periods, 360);
+    println!("{tried:?}");
+    assert_eq!(tried.periods, 360);
     assert!(
-        tally.parts > 1_000 && tally.figures > 7_560_636,
-        "{tally:?}"
+        tried.parts > 1_000 && tried.figures > 7_560_636,
+        "{tried:?}"
     );
-    tally.expect_small_uses();
-    tally.expect_each_refusal();
+    tried.expect_small_uses();
+    tried.expect_each_refusal();
 }
 
 /// A leap year a day at a time.
@@ -422,7 +424,7 @@ fn every_day_by_itself() {
     let (file, holidays) = (file(), holidays());
     let lent = (&file[..], &holidays[..]);
     let mut draw = Draw::new(11_000_000);
-    let mut tally = Tally::default();
+    let mut tried = Tried::default();
     let days = Days {
         first: draw::index_of(20_000_101).expect("a date of the span"),
         count: 366,
@@ -430,9 +432,9 @@ fn every_day_by_itself() {
     let cuts: Vec<usize> = (1..366).collect();
     for (group, yearly) in [(0, 3_500), (1, 3_500), (0, 1_000_000_000)] {
         let request = request(lent, days, group, yearly, 39_999);
-        expect_joined(&request, days, &cuts, &mut draw, &mut tally);
+        expect_joined(&request, days, &cuts, &mut draw, &mut tried);
     }
-    assert_eq!((tally.parts, tally.figures), (3 * 366, 3 * 35_136));
+    assert_eq!((tried.parts, tried.figures), (3 * 366, 3 * 35_136));
 }
 
 /// Calls for more than 1,461 days in all, for which there is no call for the whole: joined differently they have the same
@@ -442,7 +444,7 @@ fn joined_figures_past_1461_days() {
     let (file, holidays) = (file(), holidays());
     let lent = (&file[..], &holidays[..]);
     let mut draw = Draw::new(12_000_000);
-    let mut tally = Tally::default();
+    let mut tried = Tried::default();
     let days = Days {
         first: draw::index_of(20_980_101).expect("a date of the span") - 4_000,
         count: 4_730,
@@ -462,7 +464,7 @@ fn joined_figures_past_1461_days() {
         let joined = ways.map(|cuts| {
             let mut joining = Joining::new(request, days.values(), what);
             for part in days.cut(cuts) {
-                joining.refuse(&mut draw, part, &mut tally);
+                joining.refuse(&mut draw, part, &mut tried);
                 joining.add(part, true);
             }
             (joining.made, joining.out)

@@ -49,9 +49,9 @@ where
     memory.resize(end + AROUND, own);
     let answer = call(&mut memory[AROUND..end]);
     expect_memory(&memory[AROUND..end], after, what);
-    let around = memory[..AROUND].iter().chain(&memory[end..]);
+    let mut around = memory[..AROUND].iter().chain(&memory[end..]);
     assert!(
-        around.into_iter().all(|&entry| entry == own),
+        around.all(|&entry| entry == own),
         "{what}: the call wrote to memory that it was not lent"
     );
     answer
