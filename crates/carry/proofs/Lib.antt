@@ -1,2 +1,2 @@
-pub mod Bound
-pub mod Joining
+pub mod Carry
+pub mod Energy

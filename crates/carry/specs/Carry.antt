@@ -1,7 +1,8 @@
 -- Document 01, "Series and carry": the figures that powers Q make with a yearly use A, and the carry they leave.
-use mathlib.Core.Path.{_≡_}
 use mathlib.Core.List.{List, [], _∷_, _++_}
+use mathlib.Core.Path.{_≡_}
 use Prim.Native.Nat.{ℕ, _+_, _*_, _/_, _%_, _<_}
+use Rattle.lists.specs.Lists.{sum}
 
 -- "Each quarter hour takes Q × A + carry, gives the quotient by 40,000 as its figure in Wh, and keeps the remainder as the next
 -- carry."
@@ -14,18 +15,13 @@ unfoldable pub lastCarry : ℕ → List ℕ → ℕ → ℕ
 lastCarry yearly [] carry = carry
 lastCarry yearly (power ∷ powers) carry = lastCarry yearly powers ((power * yearly + carry) % 40_000)
 
--- "the total in Wh (the sum of the figures)"
-unfoldable pub sum : List ℕ → ℕ
-sum [] = 0
-sum (x ∷ xs) = x + sum xs
-
 -- a run cut in two, with the carry handed on: the figures joined, the totals added and the last carry are those of the whole
 pub record Joined (yearly carry : ℕ) (first second : List ℕ) : Type 0 where
   pub figuresJoin : figures yearly (first ++ second) carry ≡ figures yearly first carry ++ figures yearly second (lastCarry yearly first carry)
   pub totalsAdd : sum (figures yearly (first ++ second) carry) ≡ sum (figures yearly first carry) + sum (figures yearly second (lastCarry yearly first carry))
   pub carryHandedOn : lastCarry yearly (first ++ second) carry ≡ lastCarry yearly second (lastCarry yearly first carry)
 
--- the theorem: it is so at every cut, and the carry stays in its range. Proved in proofs/Joining.antt.
+-- the theorem: it is so at every cut, and the carry stays in its range. Proved in proofs/Carry.antt.
 unfoldable pub EveryCut : Type 0
 EveryCut =
     ((yearly carry : ℕ) (first second : List ℕ) → Joined yearly carry first second)

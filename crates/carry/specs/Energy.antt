@@ -1,10 +1,11 @@
 -- Document 01, "Series and carry": a run's exact and static energy, and how far its sum may lie from the exact one. Stated for
 -- any list of quarter hours with P, X and Q, whichever days and tables they come from.
+use mathlib.Core.List.{List, map}
 use mathlib.Core.Path.{_≡_}
-use mathlib.Core.List.{List, [], _∷_, map}
 use Prim.Native.Nat.{ℕ, _+_, _*_, _^_, _≤_, _<_}
 use lib.ListN.{length}
-use Rattle.carry.specs.Carry.{figures, sum}
+use Rattle.lists.specs.Lists.{sum, Each}
+use Rattle.carry.specs.Carry.{figures}
 
 -- a quarter hour: the value P of its position, the X of its day, and the power Q made of both
 pub record Quarter : Type 0 where
@@ -35,11 +36,6 @@ pub record Rounded (q : Quarter) : Type 0 where
   pub above : q .power * 10 ^ 12 ≤ q .value * q .exact + (5 * 10 ^ 11 + q .value * (5 * 10 ^ 7))
   pub below : q .value * q .exact ≤ q .power * 10 ^ 12 + (5 * 10 ^ 11 + q .value * (5 * 10 ^ 7))
 
--- every member of a list has a property
-abbrev pub Each : {A : Type 0} → (A → Type 0) → List A → Type 0
-Each property [] = Unit {0}
-Each property (x ∷ xs) = property x × Each property xs
-
 -- what a bound on a run says, multiplied out by 4 × 10^16: its sum in Wh lies less than the bound above and below its exact energy
 pub record Within (bound exact total : ℕ) : Type 0 where
   pub above : 4 * 10 ^ 16 * total < exact + bound
@@ -57,7 +53,7 @@ otherBound = 4 * 10 ^ 16
 abbrev pub Unrounded : Quarter → Type 0
 Unrounded q = q .power * 10 ^ 12 ≡ q .value * q .exact
 
--- the theorem: whatever carry a run begins with, its sum keeps to its bound. Proved in proofs/Bound.antt.
+-- the theorem: whatever carry a run begins with, its sum keeps to its bound. Proved in proofs/Energy.antt.
 unfoldable pub Bounded : Type 0
 Bounded =
     (yearly carry : ℕ) (run : List Quarter) → carry < 40_000 →

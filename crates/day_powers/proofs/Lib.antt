@@ -1,3 +1,2 @@
-pub mod EachLaws
-pub mod Quarters
-pub mod Tables
+pub mod DayTable
+pub mod DayQuarters

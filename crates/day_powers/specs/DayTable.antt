@@ -1,12 +1,12 @@
 -- Document 01, "The profile file": "Values stand in the order winter, summer, transition; in each season weekday, Saturday, Sunday;
 -- in each day 96 values". Which of a group's values are a day's.
 use mathlib.Core.List.{List}
-use Prim.Native.Nat.{ℕ, _+_, _*_, _≤_}
-use lib.ListN.{length, take, drop, getD}
-use Rattle.calendar.specs.declared.dates.Date.{Date}
-use Rattle.calendar.specs.declared.days.Season.{Season}
-use Rattle.calendar.specs.declared.days.DayType.{DayType}
-use Rattle.calendar.specs.Days.{season, dayType}
+use Prim.Native.Nat.{ℕ, _+_, _*_}
+use lib.ListN.{take, drop}
+use Rattle.calendar_dates.specs.declared.Date.{Date}
+use Rattle.calendar_days.specs.declared.Season.{Season}
+use Rattle.calendar_days.specs.declared.DayType.{DayType}
+use Rattle.calendar_days.specs.Days.{season, dayType}
 
 -- "winter, summer, transition"
 abbrev pub seasonPlace : Season → ℕ
@@ -31,8 +31,3 @@ tableAt index values = take 96 (drop (index * 96) values)
 -- the 96 values of a day, out of its group's values
 unfoldable pub dayValues : List ℕ → List ℕ → Date → List ℕ
 dayValues values holidays d = tableAt (tableIndex (season d) (dayType d holidays)) values
-
--- what is asked of a group's values: the day table lies inside, and no value is above 20,000
-pub record TableInside (index : ℕ) (values : List ℕ) : Type 0 where
-  pub inside : (index + 1) * 96 ≤ length values
-  pub small : (i : ℕ) → getD values i 0 ≤ 20_000

@@ -1,2 +1,3 @@
 pub mod DayTable
 pub mod DayQuarters
+pub mod Inside

@@ -1,10 +1,10 @@
 // One day's powers: the table that a day uses, and the power of each of its 96 values.
-use calendar::days::DayType;
-use calendar::days::Season;
+use calendar_days::DayType;
+use calendar_days::Season;
 ghost use mathlib.Core.Path.{_≡_};
 ghost use Prim.Native.Nat.{_≤_, _<_};
-ghost use Rattle.day_powers.specs.DayTable.{seasonPlace, dayTypePlace, tableIndex, tableAt, TableInside};
-ghost use Rattle.day_powers.specs.DayQuarters.{powersBy};
+ghost use Rattle.day_powers.specs.DayTable.{seasonPlace, dayTypePlace, tableIndex, tableAt};
+ghost use Rattle.day_powers.specs.Inside.{TableInside, powersBy};
 
 // The seasons' order in the file.
 fn season_place(season: Season) -> usize

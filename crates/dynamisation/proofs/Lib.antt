@@ -1,4 +1,3 @@
 pub mod Days
-pub mod Rounding
+pub mod Dynamisation
 pub mod Scaled
-pub mod Whole

@@ -1,2 +1,1 @@
 pub mod Dynamisation
-pub mod Rounding

@@ -1,16 +1,20 @@
 // The calls of document 01 for other languages: numbers and slices in, structs of numbers out. A slice goes as a pointer and a
 // length. Each has the contract of the call that it makes, by the figures of its answer.
-use enquiry::DayReport;
-use expanding::ExpansionReport;
-use group::LocatedPart;
-use group::comparing::ComparisonReport;
+use call_day::DayReport;
+use call_expand::ExpansionReport;
+use file_compare::ComparisonReport;
+use file_locate::LocatedPart;
 ghost use mathlib.Core.Path.{_≡_};
 ghost use lib.ListN.{length};
-ghost use Rattle.group.specs.Group.{check};
-ghost use Rattle.group.specs.Calls.{locatedPart, readCheck, tableAfter, comparison, reportedComparison};
-ghost use Rattle.writing.specs.Writing.{writeCheck, bufferAfter};
-ghost use Rattle.enquiry.specs.Enquiry.{dayEnquiry, reported as reportedDay};
-ghost use Rattle.expanding.specs.Expanding.{request, expansion, outputAfter, reported as reportedExpansion};
+ghost use Rattle.file_group.specs.Group.{check};
+ghost use Rattle.file_locate.specs.Locating.{locatedPart};
+ghost use Rattle.file_read.specs.Reading.{readCheck, tableAfter};
+ghost use Rattle.file_compare.specs.Comparing.{comparison, reportedComparison};
+ghost use Rattle.file_write_check.specs.Writing.{writeCheck};
+ghost use Rattle.file_write.specs.Buffer.{bufferAfter};
+ghost use Rattle.call_day.specs.Enquiry.{dayEnquiry, reported as reportedDay};
+ghost use Rattle.call_request.specs.Request.{request};
+ghost use Rattle.call_expand.specs.Expanding.{expansion, outputAfter, reported as reportedExpansion};
 ghost use Rattle.exports.specs.Exports.{reportedCheck};
 
 #[repr(C)]
@@ -33,7 +37,7 @@ fn report_check(v: refusal::Verdict) -> CheckReport
 pub extern "C" fn slp_check(file: &[u8], group: u8) -> CheckReport
     ensures { λ r. ⌜ r ≡ reportedCheck (check (now (file .entry)) group) ⌝ }
 {
-    report_check(group::check(file, group))
+    report_check(file_group::check(file, group))
 }
 
 // Where a group's value bytes stand in the file.
@@ -41,7 +45,7 @@ pub extern "C" fn slp_check(file: &[u8], group: u8) -> CheckReport
 pub extern "C" fn slp_locate(file: &[u8], group: u8) -> LocatedPart
     ensures { λ r. ⌜ r ≡ locatedPart (now (file .entry)) group ⌝ }
 {
-    group::located_part(file, group)
+    file_locate::located_part(file, group)
 }
 
 // Reads a group's values into a table.
@@ -50,7 +54,7 @@ pub extern "C" fn slp_read(file: &[u8], group: u8, table: &mut [u16]) -> CheckRe
     ensures { λ r. ⌜ r ≡ reportedCheck (readCheck (now (file .entry)) group (length (now (table .entry)))) ⌝ }
     ensures { λ r. ⌜ now (table .exit) ≡ tableAfter (now (file .entry)) group (now (table .entry)) ⌝ }
 {
-    report_check(group::reading::read(file, group, table))
+    report_check(file_read::read(file, group, table))
 }
 
 // Writes a profile file into a buffer.
@@ -59,7 +63,7 @@ pub extern "C" fn slp_write(codes: &[u8], values: &[u16], buffer: &mut [u8]) -> 
     ensures { λ r. ⌜ r ≡ reportedCheck (writeCheck (now (codes .entry)) (now (values .entry)) (length (now (buffer .entry)))) ⌝ }
     ensures { λ r. ⌜ now (buffer .exit) ≡ bufferAfter (now (codes .entry)) (now (values .entry)) (now (buffer .entry)) ⌝ }
 {
-    report_check(writing::write(codes, values, buffer))
+    report_check(file_write::write(codes, values, buffer))
 }
 
 // Compares two groups.
@@ -67,7 +71,7 @@ pub extern "C" fn slp_write(codes: &[u8], values: &[u16], buffer: &mut [u8]) -> 
 pub extern "C" fn slp_compare(file: &[u8], first: u8, second: u8) -> ComparisonReport
     ensures { λ r. ⌜ r ≡ reportedComparison (comparison (now (file .entry)) first second) ⌝ }
 {
-    group::comparing::report(group::comparing::compare(file, first, second))
+    file_compare::report(file_compare::compare(file, first, second))
 }
 
 // The day enquiry.
@@ -75,7 +79,7 @@ pub extern "C" fn slp_compare(file: &[u8], first: u8, second: u8) -> ComparisonR
 pub extern "C" fn slp_day(date: u32, holidays: &[u32]) -> DayReport
     ensures { λ r. ⌜ r ≡ reportedDay (dayEnquiry date (now (holidays .entry))) ⌝ }
 {
-    enquiry::report(enquiry::enquire(date, holidays))
+    call_day::report(call_day::enquire(date, holidays))
 }
 
 // Expanding.
@@ -93,5 +97,5 @@ pub extern "C" fn slp_expand(
     ensures { λ r. ⌜ r ≡ reportedExpansion (expansion (request (now (file .entry)) group first last (now (holidays .entry)) yearly carry (now (out .entry)))) ⌝ }
     ensures { λ r. ⌜ now (out .exit) ≡ outputAfter (request (now (file .entry)) group first last (now (holidays .entry)) yearly carry (now (out .entry))) ⌝ }
 {
-    expanding::report(expanding::expand(file, group, first, last, holidays, yearly, carry, out))
+    call_expand::report(call_expand::expand(file, group, first, last, holidays, yearly, carry, out))
 }

@@ -1,6 +1,6 @@
 // What a check answers (document 01, "The questions, first "no" counts"), and document 01's number and place for it.
 ghost use mathlib.Core.Path.{_≡_};
-ghost use Rattle.refusal.specs.Verdict.{number, place, refusalNumber, refusalPlace};
+ghost use Rattle.refusal.specs.Questions.{refusalNumber, refusalPlace, number, place};
 
 // The question that did not pass, with its place where document 01 names one.
 pub enum Refusal {

@@ -2,31 +2,33 @@
 -- the loop's start, turn and end. And the whole's total fits: no power is above 40,000, and no day has more than 100.
 -- Assumes nothing.
 use mathlib.Core.Path.{_≡_, refl, sym, _∙_, ap}
-use mathlib.Core.Bool.{true}
 use mathlib.Core.List.{List, [], _∷_, _++_, map-append}
+use mathlib.Core.Bool.{true}
 use Prim.Native.Nat.{ℕ, zero, suc, _+_, _-_, _*_, _^_, _≤_, _<_}
 use native.Mathlib.Nat.{zero-add, mul-le-mul}
 use native.Mathlib.Omega.{arith}
 use lib.ListN.{length, getD, length-append, length-map}
 use lib.Seq.{sets, sets-eq, length-sets}
-use Rattle.refusal.proofs.Stores.{sets-append}
-use Rattle.calendar.specs.declared.dates.Date.{Date}
-use Rattle.calendar.specs.Dates.{isDate, nextDay}
-use Rattle.calendar.specs.Days.{clock}
-use Rattle.period.specs.declared.CalendarDay.{CalendarDay}
-use Rattle.period.specs.CalendarDay.{calendarDay}
-use Rattle.period.specs.Period.{AllDates}
-use Rattle.period.proofs.Days.{all-first, all-next, values-small}
-use Rattle.carry.specs.Carry.{figures, lastCarry, sum}
-use Rattle.carry.specs.Energy.{Each, powers}
-use Rattle.carry.proofs.Joining.{figures-append, carry-append, sum-append, length-figures, carry-small, telescope}
+use Rattle.lists.specs.Lists.{sum, Each}
+use Rattle.lists.proofs.Stores.{sets-append}
+use Rattle.lists.proofs.Sums.{sum-append}
+use Rattle.lists.proofs.Members.{each-append}
+use Rattle.calendar_dates.specs.declared.Date.{Date}
+use Rattle.calendar_dates.specs.Dates.{isDate, nextDay, AllDates}
+use Rattle.calendar_dates.proofs.Later.{all-first, all-next}
+use Rattle.calendar_days.specs.Days.{clock}
+use Rattle.calendar_period.specs.declared.CalendarDay.{CalendarDay}
+use Rattle.calendar_period.specs.Inside.{calendarDay, RealDay, RealDays}
+use Rattle.calendar_period.proofs.Period.{values-small}
+use Rattle.carry.specs.declared.Totals.{Totals}
+use Rattle.carry.specs.Carry.{figures, lastCarry}
+use Rattle.carry.specs.Energy.{powers}
+use Rattle.carry.proofs.Carry.{figures-append, carry-append, length-figures, carry-small, telescope}
 use Rattle.day_powers.specs.DayQuarters.{dayQuarters}
-use Rattle.day_powers.proofs.EachLaws.{each-append, each-position}
-use Rattle.day_powers.proofs.Quarters.{day-powers-positions}
-use Rattle.series.specs.declared.Totals.{Totals}
+use Rattle.day_powers.proofs.DayQuarters.{each-position, day-powers-positions}
+use Rattle.series.specs.Inside.{GroupValues, InRange, Room, Added, Filled}
 use Rattle.series.specs.Series.{quartersOfDays}
-use Rattle.series.specs.Loop.{GroupValues, InRange, RealDay, RealDays, Room, Added, Filled}
-use Rattle.series.proofs.SeriesLaws.{quarters-none, quarters-next, length-quarters}
+use Rattle.series.proofs.Series.{quarters-none, quarters-next, length-quarters}
 use Rattle.series.proofs.OneDay.{powersBefore, dayPowers, day-powers-small}
 
 -- the powers `left` are still to come; the figures of the whole have room, and their total fits

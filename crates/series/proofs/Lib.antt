@@ -1,3 +1,3 @@
-pub mod SeriesLaws
+pub mod Series
 pub mod OneDay
 pub mod DayByDay

@@ -6,28 +6,32 @@ use mathlib.Core.List.{List}
 use Prim.Native.Nat.{ℕ, _+_, _^_, _≤_, _<_}
 use native.Mathlib.Omega.{arith}
 use lib.ListN.{length, getD, length-map}
-use Rattle.calendar.specs.declared.days.Season.{Season}
-use Rattle.calendar.specs.declared.days.DayType.{DayType}
-use Rattle.calendar.specs.declared.days.Clock.{Clock}
-use Rattle.calendar.specs.declared.dates.Date.{Date}
-use Rattle.calendar.specs.Dates.{isDate, dayOfYear, weekdayOf}
-use Rattle.calendar.specs.Days.{season, dayType, clock, positions, valuesUnder}
-use Rattle.calendar.proofs.DateLaws.{day-of-year-range, leap-small}
-use Rattle.period.specs.declared.CalendarDay.{CalendarDay}
+use Rattle.lists.specs.Lists.{sum}
+use Rattle.calendar_dates.specs.declared.Date.{Date}
+use Rattle.calendar_dates.specs.Dates.{isDate, dayOfYear, weekdayOf}
+use Rattle.calendar_dates.proofs.Dates.{leap-small, day-of-year-range}
+use Rattle.calendar_days.specs.declared.Season.{Season}
+use Rattle.calendar_days.specs.declared.DayType.{DayType}
+use Rattle.calendar_days.specs.declared.Clock.{Clock}
+use Rattle.calendar_days.specs.Days.{season, dayType, clock, positions, valuesUnder}
+use Rattle.calendar_period.specs.declared.CalendarDay.{CalendarDay}
+use Rattle.calendar_period.specs.Inside.{RealDay}
 use Rattle.dynamisation.specs.Dynamisation.{F}
 use Rattle.dynamisation.proofs.Days.{Day}
-use Rattle.dynamisation.proofs.Whole.{F-small}
-use Rattle.carry.specs.Carry.{figures, sum}
+use Rattle.dynamisation.proofs.Dynamisation.{F-small}
+use Rattle.carry.specs.declared.Totals.{Totals}
 use Rattle.carry.specs.Energy.{powers}
-use Rattle.carry.proofs.Joining.{length-figures}
+use Rattle.carry.specs.Carry.{figures}
+use Rattle.carry.proofs.Carry.{length-figures}
+use Rattle.carry_range.specs.declared.Carried.{Carried}
+use Rattle.carry_range.specs.Inside.{SmallPowers}
+use Rattle.carry_day.specs.Inside.{DayCarried}
+use Rattle.carry_day.proofs.TwoRanges.{stored-figures}
 use Rattle.day_powers.specs.DayTable.{tableIndex, tableAt, dayValues}
-use Rattle.day_powers.specs.DayQuarters.{powersBy, dayQuarters}
-use Rattle.day_powers.proofs.Quarters.{powers-small, length-day-quarters, day-powers-positions}
-use Rattle.day_figures.specs.declared.Carried.{Carried}
-use Rattle.day_figures.specs.Day.{SmallPowers, DayCarried}
-use Rattle.day_figures.proofs.Ranges.{stored-figures}
-use Rattle.series.specs.declared.Totals.{Totals}
-use Rattle.series.specs.Loop.{GroupValues, InRange, RealDay, Room, Added}
+use Rattle.day_powers.specs.Inside.{powersBy}
+use Rattle.day_powers.specs.DayQuarters.{dayQuarters}
+use Rattle.day_powers.proofs.DayQuarters.{powers-small, length-day-quarters, day-powers-positions}
+use Rattle.series.specs.Inside.{GroupValues, InRange, Room, Added}
 
 -- the t of a date
 in-year : (d : Date) → isDate d ≡ true → Day (dayOfYear d)

@@ -1,2 +1,2 @@
 pub mod Series
-pub mod Loop
+pub mod Inside

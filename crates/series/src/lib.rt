@@ -1,24 +1,20 @@
 // Series and carry (document 01): a period's figures, day by day, with the carry handed from day to day.
-use period::CalendarDay;
+use calendar_period::CalendarDay;
+use carry::Totals;
 ghost use mathlib.Core.Path.{_≡_};
 ghost use Prim.Native.Nat.{_≤_, _<_};
 ghost use lib.ListN.{length};
-ghost use Rattle.carry.specs.Energy.{powers};
 ghost use Rattle.refusal.specs.declared.Verdict.the-variants.{Pass};
-ghost use Rattle.calendar.specs.Dates.{dayOfYear};
-ghost use Rattle.calendar.specs.Holidays.{holidaysQuestion};
+ghost use Rattle.calendar_dates.specs.Dates.{dayOfYear};
+ghost use Rattle.calendar_holidays.specs.Holidays.{holidaysQuestion};
+ghost use Rattle.calendar_period.specs.Inside.{RealDay, RealDays};
 ghost use Rattle.dynamisation.specs.Dynamisation.{F};
+ghost use Rattle.carry.specs.Energy.{powers};
 ghost use Rattle.day_powers.specs.DayTable.{dayValues};
-ghost use Rattle.day_powers.specs.DayQuarters.{powersBy, dayQuarters};
+ghost use Rattle.day_powers.specs.Inside.{powersBy};
+ghost use Rattle.day_powers.specs.DayQuarters.{dayQuarters};
+ghost use Rattle.series.specs.Inside.{GroupValues, InList, InRange, Room, Added, Filled};
 ghost use Rattle.series.specs.Series.{quartersOfDays};
-ghost use Rattle.series.specs.Loop.{GroupValues, InList, InRange, RealDay, RealDays, Room, Added, Filled};
-
-// What some quarter hours come to: their count, the sum of their figures in Wh, and the carry that they leave.
-pub struct Totals {
-    pub count: usize,
-    pub total: u64,
-    pub carry: u32,
-}
 
 // The powers of a day before the clock change. `place` is the day's in the list of holidays.
 fn powers_on(
@@ -33,10 +29,10 @@ fn powers_on(
     requires { ⌜ InList (now holidays) place (day .date) ⌝ }
     ensures { λ r. ⌜ r ≡ powersBy (F group (dayOfYear (day .date))) (dayValues (now (values .entry)) (now (holidays .entry)) (day .date)) ⌝ }
 {
-    let season = calendar::days::season_of(day.date);
-    let number = calendar::dates::number_of(day.date);
-    let holiday = period::holidays::is_listed_at(holidays, place, number);
-    let day_type = calendar::days::day_type_when(day.date, day.weekday, holiday);
+    let season = calendar_days::season_of(day.date);
+    let number = calendar_dates::number_of(day.date);
+    let holiday = calendar_holidays::is_listed_at(holidays, place, number);
+    let day_type = calendar_days::day_type_when(day.date, day.weekday, holiday);
     let table = day_powers::table_index(season, day_type);
     day_powers::powers_of(values, table, dynamisation::factor(group, day.t))
 }
@@ -59,9 +55,9 @@ fn expand_day(
     requires { ⌜ Room yearly (powers (dayQuarters (now values) group (now holidays) (day .date))) before (now out) ⌝ }
     ensures { λ r. ⌜ Added yearly (powers (dayQuarters (now (values .entry)) group (now (holidays .entry)) (day .date))) before (now (out .entry)) r (now (out .exit)) ⌝ }
 {
-    let clock = calendar::days::clock_of(day.date, day.weekday);
+    let clock = calendar_days::clock_of(day.date, day.weekday);
     let at = before.count;
-    let carried = day_figures::carry_day(
+    let carried = carry_day::carry_day(
         powers_on(values, group, day, holidays, place),
         clock,
         yearly,
@@ -69,7 +65,7 @@ fn expand_day(
         out,
         at,
     );
-    let count = at + calendar::days::values_under(clock) as usize;
+    let count = at + calendar_days::values_under(clock) as usize;
     let total = before.total + carried.total;
     Totals {
         count,
@@ -107,11 +103,11 @@ pub fn expand_days(
     };
     let mut place: usize = 0;
     while 1 < left {
-        place = period::holidays::next_entry(holidays, place, calendar::dates::number_of(day.date));
+        place = calendar_holidays::next_entry(holidays, place, calendar_dates::number_of(day.date));
         so_far = expand_day(values, group, day, holidays, place, yearly, so_far, out);
-        day = period::day_after(day);
+        day = calendar_period::day_after(day);
         left -= 1;
     }
-    place = period::holidays::next_entry(holidays, place, calendar::dates::number_of(day.date));
+    place = calendar_holidays::next_entry(holidays, place, calendar_dates::number_of(day.date));
     expand_day(values, group, day, holidays, place, yearly, so_far, out)
 }

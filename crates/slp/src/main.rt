@@ -1,14 +1,15 @@
 // The program (document 01, "The program"): reads a request from standard input and prints its lines. What it prints is made and
-// proved by the crate `response`; here is only reading and writing. A Rattle program has no exit status: a read or a write that
+// proved by the crate `program_response`; here is only reading and writing. A Rattle program has no exit status: a read or a write that
 // fails is said on standard error.
 use libc::STDERR_FILENO;
 use libc::STDIN_FILENO;
 use libc::STDOUT_FILENO;
-use response::Response;
+use program_response::Response;
 ghost use mathlib.Core.Path.{_≡_};
 ghost use Prim.Native.Nat.{_≤_};
 ghost use lib.ListN.{length, take};
-ghost use Rattle.response.specs.Response.{pageLength, pageAfter};
+ghost use Rattle.program_answer.specs.Answer.{pageLength};
+ghost use Rattle.program_response.specs.Printed.{pageAfter};
 
 fn main() {
     // one byte more than an input may have, so that a longer one is told from the longest
@@ -23,7 +24,7 @@ fn main() {
             return;
         }
     }
-    let mut page = [0u8; response::PAGE_LENGTH];
+    let mut page = [0u8; program_response::PAGE_LENGTH];
     print(&input, count, &mut page);
 }
 
@@ -39,7 +40,7 @@ fn print(input: &[u8], count: usize, page: &mut [u8])
     requires { ⌜ pageLength ≤ length (now page) ⌝ }
     ensures { λ r. ⌜ now (page .exit) ≡ pageAfter (take count (now (input .entry))) (now (page .entry)) ⌝ }
 {
-    let answer = response::respond(&input[0..count], page);
+    let answer = program_response::respond(&input[0..count], page);
     let Response::Written(written) = answer else {
         return; // not reached: that page is long enough
     };

@@ -6,8 +6,8 @@ use Prim.Native.Nat.{ℕ, _+_, _≤_}
 use native.Mathlib.Omega.{arith}
 use lib.ListN.{length, length-append}
 use lib.Seq.{sets, length-sets}
-use Rattle.refusal.proofs.Stores.{sets-append, stored}
-use Rattle.text.specs.Text.{Put}
+use Rattle.lists.proofs.Stores.{sets-append, stored}
+use Rattle.text.specs.Inside.{Put}
 
 module _ {text before after : List ℕ} {at r : ℕ} (room : at + length text ≤ length before) where
   -- stores put a text, and a text is put by its stores

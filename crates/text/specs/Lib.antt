@@ -1,2 +1,2 @@
 pub mod Text
-pub mod Last
+pub mod Inside

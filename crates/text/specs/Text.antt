@@ -1,12 +1,10 @@
 -- Document 01, "The program": "date as yyyy-mm-dd", "Figures are printed in decimal with no leading zeros, fields are split by one
 -- space; lines end in LF." Texts are lists of ASCII codes.
-use mathlib.Core.Path.{_≡_}
 use mathlib.Core.Bool.{cond}
 use mathlib.Core.List.{List, [], _∷_, _++_}
 use Prim.Native.Nat.{ℕ, zero, suc, _+_, _/_, _%_}
 use lib.Dec.{ltb}
-use lib.ListN.{length, take, drop}
-use Rattle.calendar.specs.declared.dates.Date.{Date}
+use Rattle.calendar_dates.specs.declared.Date.{Date}
 
 abbrev pub space : ℕ
 space = 32
@@ -38,8 +36,3 @@ twoDigits n = digit (n / 10) ∷ digit (n % 10) ∷ []
 abbrev pub dateText : Date → List ℕ
 dateText d =
     twoDigits (d .year / 100) ++ (twoDigits (d .year % 100) ++ (hyphen ∷ (twoDigits (d .month) ++ (hyphen ∷ twoDigits (d .day)))))
-
--- a text was put into a lent page at `at`: what the page then holds, and the place behind it
-pub record Put (text : List ℕ) (before : List ℕ) (at : ℕ) (r : ℕ) (after : List ℕ) : Type 0 where
-  pub page : after ≡ take at before ++ (text ++ drop (at + length text) before)
-  pub behind : r ≡ at + length text

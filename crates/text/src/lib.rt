@@ -1,13 +1,13 @@
 // Text (document 01, "The program"): numbers and dates put into a lent page, one behind the other.
-use calendar::dates::Date;
+use calendar_dates::Date;
+ghost use mathlib.Core.List.{[], _∷_};
 ghost use mathlib.Core.Path.{_≡_};
 ghost use mathlib.Core.Bool.{true};
-ghost use mathlib.Core.List.{_∷_, []};
 ghost use Prim.Native.Nat.{_+_, _≤_, _<_};
 ghost use lib.ListN.{length};
-ghost use Rattle.calendar.specs.Dates.{isDate};
-ghost use Rattle.text.specs.Text.{decimal, twoDigits, dateText, Put};
-ghost use Rattle.text.specs.Last.{lastDigits};
+ghost use Rattle.calendar_dates.specs.Dates.{isDate};
+ghost use Rattle.text.specs.Inside.{Put, lastDigits};
+ghost use Rattle.text.specs.Text.{decimal, twoDigits, dateText};
 
 pub const SPACE: u8 = b' ';
 

@@ -1,12 +1,12 @@
--- `day_powers::powers_of` meets its contract. The loop's invariant: the powers stored so far are the table's (proofs/Tables.antt).
+-- `day_powers::powers_of` meets its contract. The loop's invariant: the powers stored so far are the table's (proofs/DayTable.antt).
 -- Assumes nothing.
 use mathlib.Core.Path.{_≡_, refl, sym, _∙_}
 use Prim.Native.Nat.{_+_, _-_, _*_, _≤_}
 use native.Mathlib.Omega.{arith}
 use lib.ListN.{length, take, length-set}
 use Rattle.day_powers.specs.DayTable.{tableAt}
-use Rattle.day_powers.specs.DayQuarters.{powersBy}
-use Rattle.day_powers.proofs.Tables.{length-powers, power-at, one-more, all-stored}
+use Rattle.day_powers.specs.Inside.{powersBy}
+use Rattle.day_powers.proofs.DayTable.{length-powers, power-at, one-more, all-stored}
 use Rattle.day_powers.proofs.powers_of.Statement.{statement}
 use Rattle.day_powers.proofs.powers_of.Tie as tie
 

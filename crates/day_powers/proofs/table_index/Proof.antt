@@ -1,7 +1,7 @@
--- `day_powers::table_index` meets its contract: both places are at most 2 (proofs/Tables.antt). Assumes nothing.
+-- `day_powers::table_index` meets its contract: both places are at most 2 (proofs/DayTable.antt). Assumes nothing.
 use native.Mathlib.Omega.{arith}
 use borrow.Author.Needs.{needs}
-use Rattle.day_powers.proofs.Tables.{places}
+use Rattle.day_powers.proofs.DayTable.{places}
 use Rattle.day_powers.proofs.table_index.Statement.{statement}
 use Rattle.day_powers.proofs.table_index.Tie as tie
 

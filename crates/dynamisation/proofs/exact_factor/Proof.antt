@@ -1,6 +1,6 @@
 -- `dynamisation::exact_factor` meets its contract: X of code 0 is the households' sum, and of each other code 10^12.
 -- Assumes nothing.
-use mathlib.Core.Path.{_≡_, sym, ap, _∙_}
+use mathlib.Core.Path.{_≡_, sym, _∙_, ap}
 use Prim.Native.Nat.{ℕ, zero, suc, _<_}
 use native.Mathlib.Omega.{arith}
 use lib.Dec.{T}

@@ -1,6 +1,6 @@
 -- `dynamisation::factor` meets its contract: `exact_factor` answers the whole number that X is, which the cast to u64
 -- leaves as it is. The rest is arithmetic. Assumes nothing.
-use mathlib.Core.Path.{_≡_, ap, _∙_}
+use mathlib.Core.Path.{_≡_, _∙_, ap}
 use native.Mathlib.Omega.{arith}
 use lib.IntN.{pos, natAbs}
 use mir.Facts.{toZ-ofZ}
@@ -8,7 +8,7 @@ use mir.Syntax.{w64}
 use mir.Val.{toZ, ofZ}
 use borrow.Author.Needs.{needs, sfits-of}
 use Rattle.dynamisation.specs.Dynamisation.{X}
-use Rattle.dynamisation.proofs.Whole.{Whole, whole, rounded}
+use Rattle.dynamisation.proofs.Dynamisation.{Whole, whole, rounded}
 use Rattle.dynamisation.proofs.factor.Statement.{statement}
 use Rattle.dynamisation.proofs.factor.Tie as tie
 

@@ -3,13 +3,13 @@
 -- coefficients off the code, so that a wrong one is refused where its test fails. Assumes nothing.
 use mathlib.Core.Path.{refl}
 use Prim.Native.Nat.{ℕ}
-use lib.Dec.{lit<, lit≤}
 use lib.IntN.{ℤ, _+ℤ_, _-ℤ_, _*ℤ_}
-use mir.Facts.{fits-lit}
+use lib.Dec.{lit<, lit≤}
 use mir.Syntax.{w64}
 use mir.Val.{SFits, toZ, ofZ}
+use mir.Facts.{fits-lit}
 use borrow.Author.Needs.{needs}
-use Rattle.dynamisation.specs.Dynamisation.{X, householdX}
+use Rattle.dynamisation.specs.Dynamisation.{householdX, X}
 use Rattle.dynamisation.proofs.Days.{fits, same}
 use Rattle.dynamisation.proofs.household_sum.Statement.{statement}
 use Rattle.dynamisation.proofs.household_sum.Tie as tie

@@ -1,8 +1,8 @@
 -- `exports::slp_check` meets its contract: the call's own contract, by the figures of its answer.
 -- Assumes nothing.
 use mathlib.Core.Path.{_∙_, ap}
-use Rattle.exports.specs.Exports.{reportedCheck}
 use borrow.Author.Needs.{needs}
+use Rattle.exports.specs.Exports.{reportedCheck}
 use Rattle.exports.proofs.slp_check.Statement.{statement}
 use Rattle.exports.proofs.slp_check.Tie as tie
 

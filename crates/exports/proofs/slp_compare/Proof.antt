@@ -1,8 +1,8 @@
 -- `exports::slp_compare` meets its contract: the call's own contract, by the figures of its answer.
 -- Assumes nothing.
 use mathlib.Core.Path.{_∙_, ap}
-use Rattle.group.specs.Calls.{reportedComparison}
 use borrow.Author.Needs.{needs}
+use Rattle.file_compare.specs.Comparing.{reportedComparison}
 use Rattle.exports.proofs.slp_compare.Statement.{statement}
 use Rattle.exports.proofs.slp_compare.Tie as tie
 

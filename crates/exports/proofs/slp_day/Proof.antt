@@ -1,8 +1,8 @@
 -- `exports::slp_day` meets its contract: the call's own contract, by the figures of its answer.
 -- Assumes nothing.
 use mathlib.Core.Path.{_∙_, ap}
-use Rattle.enquiry.specs.Enquiry.{reported}
 use borrow.Author.Needs.{needs}
+use Rattle.call_day.specs.Enquiry.{reported}
 use Rattle.exports.proofs.slp_day.Statement.{statement}
 use Rattle.exports.proofs.slp_day.Tie as tie
 

@@ -1,8 +1,8 @@
 -- `exports::slp_expand` meets its contract: the call's own contract, by the figures of its answer.
 -- Assumes nothing.
 use mathlib.Core.Path.{_∙_, ap}
-use Rattle.expanding.specs.Expanding.{reported}
 use borrow.Author.Needs.{needs}
+use Rattle.call_expand.specs.Expanding.{reported}
 use Rattle.exports.proofs.slp_expand.Statement.{statement}
 use Rattle.exports.proofs.slp_expand.Tie as tie
 

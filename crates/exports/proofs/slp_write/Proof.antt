@@ -1,8 +1,8 @@
 -- `exports::slp_write` meets its contract: the call's own contract, by the figures of its answer.
 -- Assumes nothing.
 use mathlib.Core.Path.{_∙_, ap}
-use Rattle.exports.specs.Exports.{reportedCheck}
 use borrow.Author.Needs.{needs}
+use Rattle.exports.specs.Exports.{reportedCheck}
 use Rattle.exports.proofs.slp_write.Statement.{statement}
 use Rattle.exports.proofs.slp_write.Tie as tie
 

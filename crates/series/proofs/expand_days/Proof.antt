@@ -6,16 +6,17 @@ use mathlib.Core.List.{List}
 use Prim.Native.Nat.{ℕ, _<_}
 use native.Mathlib.Omega.{arith}
 use Rattle.refusal.specs.declared.Verdict.the-variants.{Pass}
-use Rattle.calendar.specs.Dates.{numberOf}
-use Rattle.calendar.specs.Holidays.{holidaysQuestion}
-use Rattle.calendar.proofs.NextDay.{next-day-counts}
-use Rattle.period.specs.declared.CalendarDay.{CalendarDay}
-use Rattle.period.specs.HolidayPlace.{Passed, Reached}
-use Rattle.period.proofs.Listed.{from-start, on-later-day}
-use Rattle.series.specs.declared.Totals.{Totals}
-use Rattle.series.specs.Loop.{GroupValues, InList, InRange, RealDay, Room}
-use Rattle.series.proofs.OneDay.{dayPowers}
+use Rattle.calendar_dates.specs.Dates.{numberOf}
+use Rattle.calendar_dates.proofs.NextDay.{next-day-counts}
+use Rattle.calendar_holidays.specs.Inside.{Passed, Reached}
+use Rattle.calendar_holidays.specs.Holidays.{holidaysQuestion}
+use Rattle.calendar_holidays.proofs.Holidays.{from-start, on-later-day}
+use Rattle.calendar_period.specs.declared.CalendarDay.{CalendarDay}
+use Rattle.calendar_period.specs.Inside.{RealDay}
+use Rattle.carry.specs.declared.Totals.{Totals}
+use Rattle.series.specs.Inside.{GroupValues, InList, InRange, Room}
 use Rattle.series.proofs.DayByDay.{added-length, start, kept-length, powersFrom, length-powers, whole-fits, DaysLeft, this-day, day-room, day-turn, last-day}
+use Rattle.series.proofs.OneDay.{dayPowers}
 use Rattle.series.proofs.expand_days.Statement.{statement}
 use Rattle.series.proofs.expand_days.Tie as tie
 

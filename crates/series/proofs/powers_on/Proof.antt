@@ -2,8 +2,9 @@
 use mathlib.Core.Path.{_∙_, ap}
 use native.Mathlib.Omega.{arith}
 use borrow.Author.Needs.{needs}
-use Rattle.calendar.specs.Days.{dayTypeWhen, listed}
-use Rattle.dynamisation.proofs.Whole.{F-small}
+use Rattle.calendar_holidays.specs.Holidays.{listed}
+use Rattle.calendar_days.specs.Days.{dayTypeWhen}
+use Rattle.dynamisation.proofs.Dynamisation.{F-small}
 use Rattle.series.proofs.OneDay.{own-weekday, t-in-year, own-powers}
 use Rattle.series.proofs.powers_on.Statement.{statement}
 use Rattle.series.proofs.powers_on.Tie as tie

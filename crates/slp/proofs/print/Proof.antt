@@ -1,12 +1,12 @@
 -- `slp::print` meets its contract: the page is the response's, and what is written lies on it. Assumes nothing.
 use mathlib.Core.Path.{_≡_}
 use mathlib.Core.List.{List}
-use native.Mathlib.Omega.{arith}
-use borrow.Author.Needs.{needs}
 use Prim.Native.Nat.{ℕ, _-_}
+use native.Mathlib.Omega.{arith}
 use lib.ListN.{take}
-use Rattle.response.specs.Response.{pageAfter}
-use Rattle.response.proofs.Room.{inside}
+use borrow.Author.Needs.{needs}
+use Rattle.program_response.specs.Printed.{pageAfter}
+use Rattle.program_laws.proofs.Room.{inside}
 use Rattle.slp.proofs.print.Statement.{statement}
 use Rattle.slp.proofs.print.Tie as tie
 

@@ -1,7 +1,7 @@
 -- `text::put_date` meets its contract: its parts, put one behind the other, are the date. Assumes nothing.
 use native.Mathlib.Omega.{arith}
 use borrow.Author.Needs.{needs}
-use Rattle.calendar.proofs.DateLaws.{parts}
+use Rattle.calendar_dates.proofs.Dates.{parts}
 use Rattle.text.proofs.Puts.{put-put}
 use Rattle.text.proofs.put_date.Statement.{statement}
 use Rattle.text.proofs.put_date.Tie as tie

@@ -2,14 +2,14 @@
 -- Assumes nothing.
 use mathlib.Core.Path.{_≡_, ap}
 use mathlib.Core.List.{List}
-use Prim.Native.Nat.{ℕ, zero, suc, _+_, _^_, _/_, _≤_, _<_}
-use native.Mathlib.Nat.{pow-succ'}
+use Prim.Native.Nat.{ℕ, zero, suc, _+_, _/_, _^_, _≤_, _<_}
 use native.Mathlib.Omega.{arith}
-use borrow.Author.Needs.{needs}
+use native.Mathlib.Nat.{pow-succ'}
 use lib.ListN.{length}
-use Rattle.text.specs.Text.{decimal, Put}
-use Rattle.text.specs.Last.{lastDigits}
-use Rattle.text.proofs.Digits.{front, front-none, front-some, digits-count, decimal-all}
+use borrow.Author.Needs.{needs}
+use Rattle.text.specs.Text.{decimal}
+use Rattle.text.specs.Inside.{Put, lastDigits}
+use Rattle.text.proofs.Text.{front, front-none, front-some, digits-count, decimal-all}
 use Rattle.text.proofs.put_decimal.Statement.{statement}
 use Rattle.text.proofs.put_decimal.Tie as tie
 

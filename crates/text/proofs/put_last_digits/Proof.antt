@@ -6,9 +6,9 @@ use Prim.Native.Nat.{ℕ, zero, suc, _+_, _-_, _/_, _%_, _≤_, _<_}
 use native.Mathlib.Omega.{arith}
 use lib.ListN.{length, set, length-set, length-append}
 use lib.Seq.{sets, set-comm}
+use Rattle.lists.proofs.Stores.{sets-append}
 use Rattle.text.specs.Text.{digit}
-use Rattle.text.specs.Last.{lastDigits}
-use Rattle.refusal.proofs.Stores.{sets-append}
+use Rattle.text.specs.Inside.{lastDigits}
 use Rattle.text.proofs.Puts.{put-sets}
 use Rattle.text.proofs.put_last_digits.Statement.{statement}
 use Rattle.text.proofs.put_last_digits.Tie as tie

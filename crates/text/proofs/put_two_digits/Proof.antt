@@ -1,9 +1,9 @@
 -- `text::put_two_digits` meets its contract: its two stores put the digits. Assumes nothing.
 use mathlib.Core.Path.{refl}
-use native.Mathlib.Numerals.{add-one}
 use native.Mathlib.Omega.{arith}
-use borrow.Author.Needs.{needs}
+use native.Mathlib.Numerals.{add-one}
 use lib.ListN.{length-set}
+use borrow.Author.Needs.{needs}
 use Rattle.text.proofs.Puts.{put-sets}
 use Rattle.text.proofs.put_two_digits.Statement.{statement}
 use Rattle.text.proofs.put_two_digits.Tie as tie

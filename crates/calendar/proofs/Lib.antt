@@ -1,3 +1,0 @@
-pub mod DateLaws
-pub mod NextDay
-pub mod Positions

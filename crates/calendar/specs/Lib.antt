@@ -1,3 +1,0 @@
-pub mod Dates
-pub mod Days
-pub mod Holidays

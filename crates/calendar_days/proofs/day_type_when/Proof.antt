@@ -1,0 +1,51 @@
+-- `calendar_days::day_type_when` meets its contract: each `return` rewrites with the tests that led there.
+-- Assumes nothing.
+use native.Mathlib.Omega.{arith}
+use borrow.Author.Tests.{eq-eqb, ne-eqb}
+use Rattle.calendar_dates.proofs.Dates.{parts}
+use Rattle.calendar_days.specs.Days.{dayTypeWhen}
+use Rattle.calendar_days.proofs.day_type_when.Statement.{statement}
+use Rattle.calendar_days.proofs.day_type_when.Tie as tie
+
+mul-month-day : tie.Need-mul-month-day
+mul-month-day c = omega (arith, parts (c .before .args .d) (c .before .pre .0))
+
+add-month-day : tie.Need-add-month-day
+add-month-day c = omega (arith, parts (c .before .before .args .d) (c .before .before .pre .0))
+
+returns : tie.Need-returns
+unfolding dayTypeWhen
+returns c = rw (← (c .before .before .before .pre .1), eq-eqb _ _ (c .if1 .taken))
+
+returns-2 : tie.Need-returns-2
+unfolding dayTypeWhen
+returns-2 c = rw (← (c .before .before .before .before .pre .1), ne-eqb _ _ (c .before .if1 .left), eq-eqb _ _ (c .if2 .taken))
+
+returns-3 : tie.Need-returns-3
+unfolding dayTypeWhen
+returns-3 c = rw (← (c .before .before .before .before .before .pre .1), ne-eqb _ _ (c .before .before .if1 .left), ne-eqb _ _ (c .before .if2 .left), eq-eqb _ _ (c .if3 .taken))
+
+returns-4 : tie.Need-returns-4
+unfolding dayTypeWhen
+returns-4 c = rw (← (c .before .before .before .before .before .before .pre .1), ne-eqb _ _ (c .before .before .before .if1 .left), ne-eqb _ _ (c .before .before .if2 .left), ne-eqb _ _ (c .before .if3 .left), c .if4 .taken)
+
+returns-5 : tie.Need-returns-5
+unfolding dayTypeWhen
+returns-5 c = rw (← (c .before .before .before .before .before .before .before .pre .1), ne-eqb _ _ (c .before .before .before .before .if1 .left), ne-eqb _ _ (c .before .before .before .if2 .left), ne-eqb _ _ (c .before .before .if3 .left), c .before .if4 .left, eq-eqb _ _ (c .if5 .taken))
+
+returns-6 : tie.Need-returns-6
+unfolding dayTypeWhen
+returns-6 c = rw (← (c .before .before .before .before .before .before .before .pre .1), ne-eqb _ _ (c .before .before .before .before .if1 .left), ne-eqb _ _ (c .before .before .before .if2 .left), ne-eqb _ _ (c .before .before .if3 .left), c .before .if4 .left, ne-eqb _ _ (c .if5 .left))
+
+pub day-type-when-spec : {M : Type 1} → statement M
+day-type-when-spec =
+    tie.close
+    (tie.spec
+    mul-month-day
+    add-month-day
+    returns
+    returns-2
+    returns-3
+    returns-4
+    returns-5
+    returns-6)

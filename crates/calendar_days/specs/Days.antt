@@ -1,0 +1,61 @@
+-- Document 01, "Calendar": seasons, day types and clock changes.
+use mathlib.Core.Bool.{Bool, cond, _&&_, _||_}
+use mathlib.Core.List.{List, _++_}
+use Prim.Native.Nat.{ℕ, _+_, _*_}
+use lib.Dec.{leb, ltb, eqb}
+use lib.ListN.{take, drop}
+use Rattle.calendar_dates.specs.declared.Date.{Date}
+use Rattle.calendar_dates.specs.Dates.{numberOf, monthLength, weekdayOf}
+use Rattle.calendar_holidays.specs.Holidays.{listed}
+use Rattle.calendar_days.specs.declared.Season.{Season}
+use Rattle.calendar_days.specs.declared.Season.the-variants.{Winter, Summer, Transition}
+use Rattle.calendar_days.specs.declared.DayType.{DayType}
+use Rattle.calendar_days.specs.declared.DayType.the-variants.{Weekday, Saturday, Sunday}
+use Rattle.calendar_days.specs.declared.Clock.{Clock}
+use Rattle.calendar_days.specs.declared.Clock.the-variants.{Unchanged, Forward, Back}
+
+-- the day within a year, as mmdd
+abbrev pub monthDay : Date → ℕ
+monthDay d = d .month * 100 + d .day
+
+-- "winter 1 November to 20 March, summer 15 May to 14 September, transition otherwise"
+unfoldable pub season : Date → Season
+season d =
+    cond (leb 1101 (monthDay d) || leb (monthDay d) 320) Winter
+    (cond (leb 515 (monthDay d) && leb (monthDay d) 914) Summer Transition)
+
+-- "A Sunday is a Sunday. 24 and 31 December count as Saturday. A listed holiday counts as Sunday. Then Saturdays and
+-- weekdays.": of a date that is a listed holiday or not
+unfoldable pub dayTypeWhen : Date → Bool → DayType
+dayTypeWhen d holiday =
+    cond (eqb (weekdayOf d) 7) Sunday
+    (cond (eqb (monthDay d) 1224 || eqb (monthDay d) 1231) Saturday
+    (cond holiday Sunday
+    (cond (eqb (weekdayOf d) 6) Saturday Weekday)))
+
+abbrev pub dayType : Date → List ℕ → DayType
+dayType d holidays = dayTypeWhen d (listed (numberOf d) holidays)
+
+-- the last Sunday of its month: seven days later the month is over
+unfoldable pub lastSunday : Date → Bool
+lastSunday d = eqb (weekdayOf d) 7 && ltb (monthLength (d .year) (d .month)) (d .day + 7)
+
+-- clocks go forward on "the last Sunday of March" and back on "the last Sunday of October"
+unfoldable pub clock : Date → Clock
+clock d = cond (eqb (d .month) 3 && lastSunday d) Forward (cond (eqb (d .month) 10 && lastSunday d) Back Unchanged)
+
+-- "The last Sunday of March loses positions 8 to 11", "the last Sunday of October repeats positions 8 to 11 directly after
+-- position 11": what stands at a day's 96 positions, after the clock change
+unfoldable pub positions : {A : Type 0} → Clock → List A → List A
+positions Unchanged day = day
+positions Forward day = take 8 day ++ drop 12 day
+positions Back day = take 12 day ++ drop 8 day
+
+-- March "has 92 values", October "has 100. All other days have 96."
+abbrev pub valuesUnder : Clock → ℕ
+valuesUnder Unchanged = 96
+valuesUnder Forward = 92
+valuesUnder Back = 100
+
+abbrev pub valueCount : Date → ℕ
+valueCount d = valuesUnder (clock d)

@@ -1,0 +1,114 @@
+// What sort of day a date is: its season, its day type and its clock change (document 01, "Calendar").
+use calendar_dates::Date;
+ghost use mathlib.Core.Path.{_≡_};
+ghost use mathlib.Core.Bool.{true};
+ghost use Rattle.calendar_dates.specs.Dates.{isDate, weekdayOf};
+ghost use Rattle.calendar_days.specs.Days.{season, dayTypeWhen, dayType, lastSunday, clock, valuesUnder};
+
+pub enum Season {
+    Winter,
+    Summer,
+    Transition,
+}
+
+pub enum DayType {
+    Weekday,
+    Saturday,
+    Sunday,
+}
+
+// What the clocks do in a day's third hour.
+pub enum Clock {
+    Unchanged,
+    Forward,
+    Back,
+}
+
+pub fn season_of(d: Date) -> Season
+    requires { ⌜ isDate d ≡ true ⌝ }
+    ensures { λ r. ⌜ r ≡ season d ⌝ }
+{
+    let month_day = d.month * 100 + d.day;
+    if 1101 <= month_day {
+        return Season::Winter;
+    }
+    if month_day <= 320 {
+        return Season::Winter;
+    }
+    if 515 <= month_day {
+        if month_day <= 914 {
+            return Season::Summer;
+        }
+    }
+    Season::Transition
+}
+
+// The day type, of a date whose weekday is known, and of which it is known whether it is a listed holiday.
+pub fn day_type_when(d: Date, weekday: u32, holiday: bool) -> DayType
+    requires { ⌜ (isDate d ≡ true) × (weekday ≡ weekdayOf d) ⌝ }
+    ensures { λ r. ⌜ r ≡ dayTypeWhen d holiday ⌝ }
+{
+    let month_day = d.month * 100 + d.day;
+    if weekday == 7 {
+        return DayType::Sunday;
+    }
+    if month_day == 1224 {
+        return DayType::Saturday;
+    }
+    if month_day == 1231 {
+        return DayType::Saturday;
+    }
+    if holiday {
+        return DayType::Sunday;
+    }
+    if weekday == 6 {
+        return DayType::Saturday;
+    }
+    DayType::Weekday
+}
+
+// The day type, of a date whose weekday is known.
+pub fn day_type_of(d: Date, weekday: u32, holidays: &[u32]) -> DayType
+    requires { ⌜ (isDate d ≡ true) × (weekday ≡ weekdayOf d) ⌝ }
+    ensures { λ r. ⌜ r ≡ dayType d (now (holidays .entry)) ⌝ }
+{
+    let holiday = calendar_holidays::is_listed(calendar_dates::number_of(d), holidays);
+    day_type_when(d, weekday, holiday)
+}
+
+fn is_last_sunday(d: Date, weekday: u32) -> bool
+    requires { ⌜ (isDate d ≡ true) × (weekday ≡ weekdayOf d) ⌝ }
+    ensures { λ r. ⌜ r ≡ lastSunday d ⌝ }
+{
+    if weekday != 7 {
+        return false;
+    }
+    calendar_dates::month_length(d.year, d.month) < d.day + 7
+}
+
+// What the clocks do, on a date whose weekday is known.
+pub fn clock_of(d: Date, weekday: u32) -> Clock
+    requires { ⌜ (isDate d ≡ true) × (weekday ≡ weekdayOf d) ⌝ }
+    ensures { λ r. ⌜ r ≡ clock d ⌝ }
+{
+    if !is_last_sunday(d, weekday) {
+        return Clock::Unchanged;
+    }
+    if d.month == 3 {
+        return Clock::Forward;
+    }
+    if d.month == 10 {
+        return Clock::Back;
+    }
+    Clock::Unchanged
+}
+
+pub fn values_under(c: Clock) -> u32
+    ensures { λ r. ⌜ r ≡ valuesUnder c ⌝ }
+{
+    match c {
+        Clock::Unchanged => 96,
+        Clock::Forward => 92,
+        Clock::Back => 100,
+    }
+}

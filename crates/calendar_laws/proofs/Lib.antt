@@ -1,0 +1,4 @@
+pub mod Dates
+pub mod Positions
+pub mod Order
+pub mod Periods

@@ -1,0 +1,21 @@
+-- A day of a period with what is handed on to the next day. No definition of document 01.
+use mathlib.Core.Path.{_≡_}
+use mathlib.Core.Bool.{true}
+use Prim.Native.Nat.{ℕ, _≤_}
+use Rattle.calendar_dates.specs.declared.Date.{Date}
+use Rattle.calendar_dates.specs.Dates.{isDate, dayOfYear, weekdayOf, AllDates}
+use Rattle.calendar_period.specs.declared.CalendarDay.{CalendarDay}
+
+abbrev pub calendarDay : Date → CalendarDay
+calendarDay d = record { date = d; weekday = weekdayOf d; t = dayOfYear d }
+
+-- a real date with its own weekday and t
+pub record RealDay (day : CalendarDay) : Type 0 where
+  pub real : isDate (day .date) ≡ true
+  pub known : day ≡ calendarDay (day .date)
+
+-- some days from a day on, at most 1,461, all of them real
+pub record RealDays (day : CalendarDay) (days : ℕ) : Type 0 where
+  pub known : day ≡ calendarDay (day .date)
+  pub few : days ≤ 1_461
+  pub all : AllDates days (day .date)

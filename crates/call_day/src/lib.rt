@@ -1,0 +1,126 @@
+// The day enquiry: questions 7 and 9, and what document 01 says of the day.
+use calendar_dates::Date;
+use calendar_days::DayType;
+use calendar_days::Season;
+use refusal::Verdict;
+ghost use mathlib.Core.Path.{_≡_};
+ghost use mathlib.Core.Bool.{true};
+ghost use Rattle.calendar_dates.specs.Dates.{isDate};
+ghost use Rattle.call_day.specs.Enquiry.{describe, dayEnquiry, seasonFigure, dayTypeFigure, reportedDay, reportedRefusal, reported};
+
+pub struct Day {
+    pub weekday: u32,
+    pub t: u32,
+    pub season: Season,
+    pub day_type: DayType,
+    pub values: u32,
+}
+
+pub enum DayAnswer {
+    Described(Day),
+    Refused(Verdict),
+}
+
+// The answer as document 01's figures: number and place, 0 when accepted, and the day's figures, 0 when refused.
+#[repr(C)]
+pub struct DayReport {
+    pub number: u32,
+    pub place: usize,
+    pub weekday: u32,
+    pub t: u32,
+    pub season: u32,
+    pub day_type: u32,
+    pub values: u32,
+}
+
+// What document 01 says of a day.
+fn describe(d: Date, holidays: &[u32]) -> Day
+    requires { ⌜ isDate d ≡ true ⌝ }
+    ensures { λ r. ⌜ r ≡ describe d (now (holidays .entry)) ⌝ }
+{
+    let weekday = calendar_dates::weekday_of(d);
+    Day {
+        weekday,
+        t: calendar_dates::day_of_year(d),
+        season: calendar_days::season_of(d),
+        day_type: calendar_days::day_type_of(d, weekday, holidays),
+        values: calendar_days::values_under(calendar_days::clock_of(d, weekday)),
+    }
+}
+
+// Describes the day of a date, or refuses by the first failing question.
+pub fn enquire(date: u32, holidays: &[u32]) -> DayAnswer
+    ensures { λ r. ⌜ r ≡ dayEnquiry date (now (holidays .entry)) ⌝ }
+{
+    let v = calendar_period::date_question(date, 0);
+    let Verdict::Pass = v else {
+        return DayAnswer::Refused(v);
+    };
+    let v = calendar_holidays::holidays_question(holidays);
+    let Verdict::Pass = v else {
+        return DayAnswer::Refused(v);
+    };
+    DayAnswer::Described(describe(calendar_dates::date_of(date), holidays))
+}
+
+// 1 winter, 2 summer, 3 transition: the order of the tables in the profile file.
+pub fn season_figure(s: Season) -> u32
+    ensures { λ r. ⌜ r ≡ seasonFigure s ⌝ }
+{
+    match s {
+        Season::Winter => 1,
+        Season::Summer => 2,
+        Season::Transition => 3,
+    }
+}
+
+// 1 weekday, 2 Saturday, 3 Sunday.
+pub fn day_type_figure(d: DayType) -> u32
+    ensures { λ r. ⌜ r ≡ dayTypeFigure d ⌝ }
+{
+    match d {
+        DayType::Weekday => 1,
+        DayType::Saturday => 2,
+        DayType::Sunday => 3,
+    }
+}
+
+fn report_day(day: Day) -> DayReport
+    ensures { λ r. ⌜ r ≡ reportedDay day ⌝ }
+{
+    let season = day.season;
+    let day_type = day.day_type;
+    DayReport {
+        number: 0,
+        place: 0,
+        weekday: day.weekday,
+        t: day.t,
+        season: season_figure(season),
+        day_type: day_type_figure(day_type),
+        values: day.values,
+    }
+}
+
+fn report_refusal(v: Verdict) -> DayReport
+    ensures { λ r. ⌜ r ≡ reportedRefusal v ⌝ }
+{
+    DayReport {
+        number: refusal::number_of(v),
+        place: refusal::place_of(v),
+        weekday: 0,
+        t: 0,
+        season: 0,
+        day_type: 0,
+        values: 0,
+    }
+}
+
+// The answer as document 01's figures.
+pub fn report(answer: DayAnswer) -> DayReport
+    ensures { λ r. ⌜ r ≡ reported answer ⌝ }
+{
+    match answer {
+        DayAnswer::Described(day) => report_day(day),
+        DayAnswer::Refused(v) => report_refusal(v),
+    }
+}

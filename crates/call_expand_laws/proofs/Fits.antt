@@ -1,0 +1,44 @@
+-- "A figure fits 32 bits, a total 64.": no power is above 40,000, so no figure is above the yearly use by more than the carry. And
+-- no series is longer than 1,461 days of 100.
+-- Assumes nothing.
+use mathlib.Core.List.{List, [], _∷_}
+use mathlib.Core.Path.{refl}
+use Prim.Native.Nat.{ℕ, _+_, _*_, _%_, _^_, _≤_, _<_}
+use native.Mathlib.Nat.{mul-le-mul}
+use native.Mathlib.Omega.{arith}
+use Rattle.lists.specs.Lists.{Each}
+use Rattle.calendar_dates.specs.Dates.{dateOf}
+use Rattle.calendar_period.specs.Inside.{calendarDay}
+use Rattle.calendar_period.proofs.Period.{values-small}
+use Rattle.file_group.proofs.Group.{checked}
+use Rattle.carry.specs.Carry.{figures}
+use Rattle.carry.specs.Energy.{powers}
+use Rattle.series.proofs.DayByDay.{Small, all-small, whole-fits}
+use Rattle.call_request.specs.Request.{daysIn, quarters, series}
+use Rattle.call_request.proofs.Request.{sound, entries-needed}
+use Rattle.call_request.proofs.Given.{table-values, real-days}
+use Rattle.call_expand_laws.specs.Fits.{FiguresFit, LongestSeries}
+
+-- small powers make small figures
+figures-small : (yearly : ℕ) (ps : List ℕ) (carry : ℕ) → yearly ≤ 10 ^ 9 → carry < 40_000 → Small ps → Each (λ figure. figure < 2 ^ 32) (figures yearly ps carry)
+unfolding figures
+figures-small yearly [] carry a b s = tt
+figures-small yearly (p ∷ ps) carry a b s =
+    let product : p * yearly ≤ 40_000 * 10 ^ 9 = mul-le-mul (s .0) a in
+    (omega arith, figures-small yearly ps ((p * yearly + carry) % 40_000) a (omega arith) (s .1))
+
+pub figures-fit : FiguresFit
+unfolding FiguresFit series
+figures-fit q h =
+    let s = sound q h in
+    let found = checked (q .file) (q .group) (s .file) in
+    let values = table-values (q .file) (q .group) (found .passed) (found .at) in
+    let day = calendarDay (dateOf (q .first)) in
+    let real = real-days q day (daysIn q) s refl refl in (
+      figures-small (q .yearly) (powers (quarters q)) (q .carry) (s .yearly) (s .carry) (all-small values (q .group) (q .holidays) (daysIn q) (dateOf (q .first)) (real .all)),
+      whole-fits values (q .group) (q .holidays) {first = day} (record { yearlySmall = s .yearly; carrySmall = s .carry }) real,
+    )
+
+pub longest-series : LongestSeries
+unfolding LongestSeries
+longest-series q h = omega (arith, entries-needed q, values-small (daysIn q) (dateOf (q .first)), sound q h .period .short)

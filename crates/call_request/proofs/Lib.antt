@@ -1,0 +1,2 @@
+pub mod Request
+pub mod Given

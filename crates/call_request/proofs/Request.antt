@@ -1,0 +1,70 @@
+-- What an accepted request is known to be, question by question, that such a request passes, and how long its series is. Assumes nothing.
+use mathlib.Core.Path.{_≡_, _∙_}
+use Prim.Native.Nat.{_≤_, _<_}
+use native.Mathlib.Omega.{arith}
+use lib.ListN.{length, length-map}
+use borrow.Author.Tests.{le-leb, leb-true}
+use Rattle.refusal.specs.declared.Verdict.the-variants.{Pass}
+use Rattle.refusal.specs.declared.Refusal.the-variants.{BadUse, BadCarry}
+use Rattle.refusal.proofs.Questions.{ask-yes, then-pass, ask-passed, then-first, then-next}
+use Rattle.calendar_dates.specs.Dates.{dateOf}
+use Rattle.calendar_holidays.specs.Holidays.{holidaysQuestion}
+use Rattle.calendar_period.specs.Period.{periodCheck, valuesOfDays}
+use Rattle.calendar_period.proofs.Period.{Period, period-passed, period-passes}
+use Rattle.file_layout.specs.Header.{layoutOf}
+use Rattle.file_group.specs.Group.{check, tableOf}
+use Rattle.file_group.proofs.Group.{table-length}
+use Rattle.carry.specs.Energy.{powers}
+use Rattle.carry.proofs.Carry.{length-figures}
+use Rattle.series.proofs.Series.{length-quarters}
+use Rattle.call_request.specs.Request.{Request, daysIn, quarters, series, useQuestion, carryQuestion, requestCheck, outputQuestion, expandCheck}
+
+-- questions 1 to 11 passed
+pub record Sound (q : Request) : Type 0 where
+  pub file : check (q .file) (q .group) ≡ Pass
+  pub period : Period (q .first) (q .last)
+  pub holidays : holidaysQuestion (q .holidays) ≡ Pass
+  pub yearly : q .yearly ≤ 1_000_000_000
+  pub carry : q .carry < 40_000
+
+module _ (q : Request) where
+  pub sound : requestCheck q ≡ Pass → Sound q
+  unfolding useQuestion carryQuestion
+  sound h =
+      let to-8 = then-next (check (q .file) (q .group)) _ h in
+      let to-9 = then-next (periodCheck (q .first) (q .last)) _ to-8 in
+      let to-10 = then-next (holidaysQuestion (q .holidays)) _ to-9 in
+      let to-11 = then-next (useQuestion (q .yearly)) _ to-10 in
+      record {
+        file = then-first _ _ h;
+        period = period-passed (q .first) (q .last) (then-first _ _ to-8);
+        holidays = then-first _ _ to-9;
+        yearly = leb-true (q .yearly) 1_000_000_000 (ask-passed _ BadUse (then-first _ _ to-10));
+        carry = omega (arith, leb-true (q .carry) 39_999 (ask-passed _ BadCarry to-11));
+      }
+
+  pub passes : Sound q → requestCheck q ≡ Pass
+  unfolding useQuestion carryQuestion
+  passes s =
+      let c = s .carry in
+      then-pass _ (s .file) ∙ then-pass _ (period-passes (q .first) (q .last) (s .period))
+      ∙ then-pass _ (s .holidays)
+      ∙ then-pass _ (ask-yes BadUse (le-leb (q .yearly) 1_000_000_000 (s .yearly)))
+      ∙ ask-yes BadCarry (le-leb (q .carry) 39_999 (omega arith))
+
+  -- question 12 passed too
+  pub request-sound : expandCheck q ≡ Pass → Sound q
+  unfolding expandCheck
+  request-sound h = sound (then-first (requestCheck q) (outputQuestion q) h)
+
+-- "entries needed"
+module _ (q : Request) where
+  pub series-length : length (series q) ≡ length (quarters q)
+  unfolding series
+  series-length = length-figures (q .yearly) (powers (quarters q)) (q .carry) ∙ length-map (quarters q) _
+
+  pub entries-needed : length (series q) ≡ valuesOfDays (daysIn q) (dateOf (q .first))
+  unfolding layoutOf
+  entries-needed =
+      series-length
+      ∙ length-quarters (tableOf (q .file) (q .group)) (q .group) (q .holidays) (daysIn q) (dateOf (q .first)) (table-length (q .file) (q .group))

@@ -1,0 +1,86 @@
+-- Document 01, "Series and carry" and questions 1 to 12: what a call of expanding is given, and when it is accepted.
+use mathlib.Core.List.{List}
+use Prim.Native.Nat.{ℕ}
+use lib.ListN.{length}
+use lib.Dec.{leb}
+use Rattle.lists.specs.Lists.{sum}
+use Rattle.refusal.specs.declared.Refusal.the-variants.{BadUse, BadCarry, ShortOutput}
+use Rattle.refusal.specs.declared.Verdict.{Verdict}
+use Rattle.refusal.specs.Questions.{ask, _then_}
+use Rattle.calendar_dates.specs.Dates.{dateOf}
+use Rattle.calendar_holidays.specs.Holidays.{holidaysQuestion}
+use Rattle.calendar_period.specs.Period.{daysOf, periodCheck}
+use Rattle.file_group.specs.Group.{check}
+use Rattle.carry.specs.declared.Totals.{Totals}
+use Rattle.carry.specs.Energy.{Quarter, powers}
+use Rattle.carry.specs.Carry.{figures, lastCarry}
+use Rattle.series.specs.Series.{quartersOf}
+
+-- what a call is given: the lent file, the wanted group, first and last date, the holiday list, the yearly use A in kWh, the carry
+-- and the lent output as it was before
+pub record Request : Type 0 where
+  pub file : List ℕ
+  pub group : ℕ
+  pub first : ℕ
+  pub last : ℕ
+  pub holidays : List ℕ
+  pub yearly : ℕ
+  pub carry : ℕ
+  pub output : List ℕ
+
+abbrev pub request : List ℕ → ℕ → ℕ → ℕ → List ℕ → ℕ → ℕ → List ℕ → Request
+request file group first last holidays yearly carry output =
+    record {
+      file = file;
+      group = group;
+      first = first;
+      last = last;
+      holidays = holidays;
+      yearly = yearly;
+      carry = carry;
+      output = output;
+    }
+
+-- the number of days of the period
+abbrev pub daysIn : Request → ℕ
+daysIn q = daysOf (dateOf (q .first)) (dateOf (q .last))
+
+-- the period's quarter hours, and the series: their figures
+abbrev pub quarters : Request → List Quarter
+quarters q = quartersOf (q .file) (q .group) (q .holidays) (daysIn q) (dateOf (q .first))
+
+unfoldable pub series : Request → List ℕ
+series q = figures (q .yearly) (powers (quarters q)) (q .carry)
+
+-- "The answer holds the count, the total in Wh (the sum of the figures) and the last carry"
+abbrev pub totals : Request → Totals
+totals q =
+    record {
+      count = length (series q);
+      total = sum (series q);
+      carry = lastCarry (q .yearly) (powers (quarters q)) (q .carry);
+    }
+
+-- 10. "Is A within its range?": "whole kWh, 0 to 1,000,000,000"
+unfoldable pub useQuestion : ℕ → Verdict
+useQuestion yearly = ask (leb yearly 1_000_000_000) BadUse
+
+-- 11. "Is the carry within its range?": "0 to 39,999"
+unfoldable pub carryQuestion : ℕ → Verdict
+carryQuestion carry = ask (leb carry 39_999) BadCarry
+
+-- questions 1 to 11
+abbrev pub requestCheck : Request → Verdict
+requestCheck q =
+    check (q .file) (q .group) then periodCheck (q .first) (q .last)
+    then holidaysQuestion (q .holidays)
+    then useQuestion (q .yearly)
+    then carryQuestion (q .carry)
+
+-- 12. "Is the lent output long enough?": "place = entries needed"
+abbrev pub outputQuestion : Request → Verdict
+outputQuestion q = ask (leb (length (series q)) (length (q .output))) (ShortOutput (length (series q)))
+
+-- questions 1 to 12
+unfoldable pub expandCheck : Request → Verdict
+expandCheck q = requestCheck q then outputQuestion q

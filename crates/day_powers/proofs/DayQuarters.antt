@@ -1,0 +1,118 @@
+-- A day's quarter hours: how many they are, their powers after the clock change, none above 40,000, and what their roundings cost.
+-- Assumes nothing.
+use mathlib.Core.List.{List, [], _∷_, _++_, map, map-append, map-map}
+use mathlib.Core.Path.{_≡_, refl, _∙_, ap}
+use Prim.Native.Nat.{ℕ, zero, suc, _*_, _≤_}
+use native.Mathlib.Omega.{arith}
+use native.Mathlib.Nat.{mul-le-mul, mul-le-mul-left, le-of-lt}
+use lib.ListN.{length, take, drop, getD, length-map}
+use lib.Seq.{getD-drop}
+use lib.IntN.{ℤ, natAbs}
+use Rattle.lists.specs.Lists.{Each}
+use Rattle.lists.proofs.Members.{each-map, each-append, each-take, each-drop}
+use Rattle.calendar_dates.specs.declared.Date.{Date}
+use Rattle.calendar_dates.specs.Dates.{dayOfYear}
+use Rattle.calendar_days.specs.declared.Clock.{Clock}
+use Rattle.calendar_days.specs.declared.Clock.the-variants.{Unchanged, Forward, Back}
+use Rattle.calendar_days.specs.Days.{season, dayType, clock, positions, valuesUnder}
+use Rattle.calendar_laws.specs.Positions.{CountedPositions}
+use Rattle.calendar_laws.proofs.Positions.{counted-positions}
+use Rattle.dynamisation.specs.Dynamisation.{X, F, Q}
+use Rattle.dynamisation_laws.specs.Rounding.{Roundings}
+use Rattle.dynamisation_laws.proofs.Rounding.{roundings}
+use Rattle.carry.specs.Energy.{Quarter, powers, Rounded, Unrounded}
+use Rattle.day_powers.specs.DayTable.{tableIndex, tableAt, dayValues}
+use Rattle.day_powers.specs.Inside.{powersBy}
+use Rattle.day_powers.specs.DayQuarters.{quarter, dayQuarters}
+use Rattle.day_powers.proofs.DayTable.{places, length-table, getD-powers}
+
+module _ {A : Type 0} (property : A → Type 0) where
+  pub each-position : (clock : Clock) (day : List A) → Each property day → Each property (positions clock day)
+  unfolding positions
+  each-position Unchanged day a = a
+  each-position Forward day a = each-append property (take 8 day) (drop 12 day) (each-take property 8 day a) (each-drop property 12 day a)
+  each-position Back day a = each-append property (take 12 day) (drop 8 day) (each-take property 12 day a) (each-drop property 8 day a)
+
+-- `map` of a day after the clock change
+module _ {A B : Type 0} (f : A → B) where
+  pub map-take : (n : ℕ) (xs : List A) → map f (take n xs) ≡ take n (map f xs)
+  map-take zero xs = refl
+  map-take (suc n) [] = refl
+  map-take (suc n) (x ∷ xs) = ap (λ (rest : List B). f x ∷ rest) (map-take n xs)
+
+  pub map-drop : (n : ℕ) (xs : List A) → map f (drop n xs) ≡ drop n (map f xs)
+  map-drop zero xs = refl
+  map-drop (suc n) [] = refl
+  map-drop (suc n) (x ∷ xs) = map-drop n xs
+
+  map-parts : (a b : ℕ) (xs : List A) → map f (take a xs ++ drop b xs) ≡ take a (map f xs) ++ drop b (map f xs)
+  map-parts a b xs = rw (map-append f (take a xs) (drop b xs), map-take a xs, map-drop b xs)
+
+  map-positions : (c : Clock) (day : List A) → map f (positions c day) ≡ positions c (map f day)
+  unfolding positions
+  map-positions Unchanged day = refl
+  map-positions Forward day = map-parts 8 12 day
+  map-positions Back day = map-parts 12 8 day
+
+-- no power of a table is above 40,000, where no value and no factor is above 20,000
+take-small : (n limit : ℕ) (xs : List ℕ) → ((i : ℕ) → getD xs i 0 ≤ limit) → (i : ℕ) → getD (take n xs) i 0 ≤ limit
+take-small zero limit xs h i = omega arith
+take-small (suc n) limit [] h i = omega arith
+take-small (suc n) limit (x ∷ xs) h zero = h 0
+take-small (suc n) limit (x ∷ xs) h (suc i) = take-small n limit xs (λ j. h (suc j)) i
+
+pub powers-small : (values : List ℕ) (index f : ℕ) → ((i : ℕ) → getD values i 0 ≤ 20_000) → f ≤ 20_000 →
+    (i : ℕ) → getD (powersBy f (tableAt index values)) i 0 ≤ 40_000
+unfolding Q
+powers-small values index f h k i =
+    let p = getD (tableAt index values) i 0 in
+    let small : p ≤ 20_000 = take-small 96 20_000 (drop (index * 96) values) (λ j. rw getD-drop (h _)) i in
+    let product : p * f ≤ 20_000 * 20_000 = mul-le-mul small k in
+    omega (arith, getD-powers f (tableAt index values) i)
+
+pub length-day-values : (values holidays : List ℕ) (d : Date) → length values ≡ 864 → length (dayValues values holidays d) ≡ 96
+unfolding dayValues
+length-day-values values holidays d h =
+    let both = places (season d) (dayType d holidays) in
+    length-table (tableIndex (season d) (dayType d holidays)) values (omega arith)
+
+module _ (values : List ℕ) (group : ℕ) (holidays : List ℕ) (d : Date) where
+  pub length-day-quarters : length values ≡ 864 → length (dayQuarters values group holidays d) ≡ valuesUnder (clock d)
+  unfolding dayQuarters CountedPositions
+  length-day-quarters h =
+      counted-positions Quarter (clock d) _ (length-map (dayValues values holidays d) _ ∙ length-day-values values holidays d h)
+
+  pub day-powers-positions : powers (dayQuarters values group holidays d) ≡ positions (clock d) (powersBy (F group (dayOfYear d)) (dayValues values holidays d))
+  unfolding dayQuarters
+  day-powers-positions =
+      map-positions (λ q. q .power) (clock d) _
+      ∙ ap (positions (clock d)) (map-map (λ q. q .power) (quarter group (dayOfYear d)) (dayValues values holidays d))
+
+-- the roundings of a quarter hour: its own, and that of F times P
+rounded : (group t p : ℕ) → 1 ≤ t → t ≤ 366 → Rounded (quarter group t p)
+unfolding Roundings
+rounded group t p h k =
+    let (x, factor) = roundings .0 group t h k in
+    let power = roundings .1 p (F group t) in
+    let exact : p * natAbs (X group t) ≡ p * x = ap (λ (z : ℤ). p * natAbs z) (factor .exact) in
+    record {
+      above = omega (arith, mul-le-mul-left p (factor .above));
+      below = omega (arith, mul-le-mul-left p (le-of-lt (factor .below)));
+    }
+
+undynamised : (group t p : ℕ) → Unrounded (quarter (suc group) t p)
+unfolding Roundings X
+undynamised group t p = omega (arith, roundings .2 group t p .power)
+
+each-quarter : (property : Quarter → Type 0) (values : List ℕ) (group : ℕ) (holidays : List ℕ) (d : Date) →
+    ((p : ℕ) → property (quarter group (dayOfYear d) p)) → Each property (dayQuarters values group holidays d)
+unfolding dayQuarters
+each-quarter property values group holidays d h =
+    each-position property (clock d) _ (each-map property (quarter group (dayOfYear d)) (dayValues values holidays d) h)
+
+module _ (values : List ℕ) (group : ℕ) (holidays : List ℕ) (d : Date) where
+  pub day-rounded : 1 ≤ dayOfYear d → dayOfYear d ≤ 366 → Each Rounded (dayQuarters values group holidays d)
+  day-rounded h k = each-quarter Rounded values group holidays d (λ p. rounded group (dayOfYear d) p h k)
+
+  pub day-undynamised : Each Unrounded (dayQuarters values (suc group) holidays d)
+  day-undynamised = each-quarter Unrounded values (suc group) holidays d (undynamised group (dayOfYear d))

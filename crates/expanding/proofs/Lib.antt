@@ -1,4 +1,0 @@
-pub mod Accepted
-pub mod Answers
-pub mod Given
-pub mod Fits

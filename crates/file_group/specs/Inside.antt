@@ -1,0 +1,16 @@
+-- What `values_of` and `values_at` promise their callers. No definition of document 01.
+use mathlib.Core.List.{List}
+use mathlib.Core.Path.{_≡_}
+use Prim.Native.Nat.{ℕ, _+_, _*_}
+use lib.ListN.{take, drop}
+use denote.Ref.{RefT, now}
+use Rattle.file_layout.specs.Header.{layoutOf}
+
+-- the value bytes of the profile whose code stands at `at`
+abbrev pub valueBytes : List ℕ → ℕ → List ℕ
+valueBytes file at = take (layoutOf file .values * 2) (drop (at + layoutOf file .before) file)
+
+-- the same as that part of the file's own memory
+pub record ValuesOf (file : RefT (List ℕ)) (at : ℕ) (part : RefT (List ℕ)) : Type 0 where
+  pub bytes : now part ≡ valueBytes (now file) at
+  pub start : part .ptr ≡ (file .ptr .0, file .ptr .1 + (at + layoutOf (now file) .before))

@@ -1,0 +1,2 @@
+pub mod Group
+pub mod Inside

@@ -1,6 +1,0 @@
-pub mod Answers
-pub mod Codes
-pub mod Finding
-pub mod Locating
-pub mod Places
-pub mod Tables

@@ -1,3 +1,0 @@
-pub mod Group
-pub mod Calls
-pub mod Inside

@@ -1,3 +1,0 @@
-pub mod Complete
-pub mod Entries
-pub mod Longs

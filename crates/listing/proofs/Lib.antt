@@ -1,4 +1,0 @@
-pub mod Fields
-pub mod DayLine
-pub mod LineByLine
-pub mod Rows

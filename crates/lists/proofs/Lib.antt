@@ -1,0 +1,4 @@
+pub mod Sums
+pub mod Members
+pub mod Strides
+pub mod Stores

@@ -1,2 +1,0 @@
-// Document 01, "Marked days and figures": one theorem about the definitions of the crates below. The statement stands in
-// specs/MarkedFigures.antt and the proof in proofs/Shown.antt; there is no code.

@@ -1,3 +1,0 @@
-pub mod Period
-pub mod CalendarDay
-pub mod HolidayPlace

@@ -1,4 +1,0 @@
-pub mod Accepted
-pub mod Joined
-pub mod Strides
-pub mod Words

@@ -1,0 +1,106 @@
+-- `read_list` meets its contract. The loop's invariant: storing the entries that are left gives what storing all of them would
+-- give. The measure is how many are left. Assumes nothing.
+use mathlib.Core.List.{List, _++_}
+use mathlib.Core.Path.{_≡_, refl, _∙_, ap}
+use mathlib.Core.Logic.{⊎-elim}
+use Prim.Native.Nat.{ℕ, _+_, _-_, _*_, _≤_}
+use native.Mathlib.Omega.{arith}
+use native.Mathlib.Numerals.{add-one}
+use lib.ListN.{length, drop, length-set}
+use lib.Seq.{sets}
+use borrow.Author.Needs.{needs}
+use Rattle.big_endian.specs.BigEndian.{longsFrom}
+use Rattle.big_endian.proofs.Longs.{longs-next, longs-end, stored-longs}
+use Rattle.program_input.specs.Input.{headLength, listLength}
+use Rattle.program_input.specs.Inside.{askedEntries}
+use Rattle.program_input.proofs.read_list.Statement.{statement}
+use Rattle.program_input.proofs.read_list.Tie as tie
+
+-- the table, filled
+abbrev listed : List ℕ → List ℕ → List ℕ
+listed input table =
+    longsFrom input (askedEntries (listLength input)) headLength ++ drop (askedEntries (listLength input)) table
+
+abbrev Inv-loop : tie.InvT-loop
+Inv-loop input table₀ entries i₀ at₀ table i at =
+    (entries ≡ askedEntries (listLength input))
+    × (sets table i (longsFrom input (entries - i) at) ≡ listed input table₀)
+    × (length table ≡ length table₀)
+    × (at ≡ headLength + i * 4)
+    × (i ≤ entries)
+
+abbrev μ-loop : tie.MeasureT-loop
+μ-loop input table₀ entries i₀ at₀ table i at = entries - i
+
+word-at-requires : tie.Need-word-at-requires Inv-loop μ-loop
+word-at-requires c κs = search needs
+
+cast-entries : tie.Need-cast-entries Inv-loop μ-loop
+cast-entries c = search needs
+
+loop-holds : tie.Need-loop-holds Inv-loop μ-loop
+loop-holds c =
+    let a = c .before .before .before .before .args in
+    let input = a .input .now in
+    let n = askedEntries (listLength input) in
+    let e : c .if1 .entries ≡ n = ⊎-elim (λ w. omega arith) (λ w. omega arith) (c .if1 .came) in
+    let f : c .if1 .entries - 0 ≡ n = omega arith in
+    let all = ap (λ (m : ℕ). sets (a .table .now) 0 (longsFrom input m headLength)) f in
+    (e, all ∙ stored-longs input (a .table .now) n headLength (omega arith), refl, omega arith, omega arith)
+
+long-at-requires : tie.Need-long-at-requires Inv-loop μ-loop
+long-at-requires c κs = omega arith
+
+mul-table : tie.Need-mul-table Inv-loop μ-loop
+mul-table c = omega arith
+
+slice-write-table : tie.Need-slice-write-table Inv-loop μ-loop
+slice-write-table c = omega arith
+
+add-i : tie.Need-add-i Inv-loop μ-loop
+add-i c = omega arith
+
+add-at : tie.Need-add-at Inv-loop μ-loop
+add-at c = omega arith
+
+loop-less : tie.Need-loop-less Inv-loop μ-loop
+loop-less c = omega arith
+
+loop-again : tie.Need-loop-again Inv-loop μ-loop
+loop-again c =
+    let l = c .before .before .loop in
+    let input = c .before .before .before .before .before .before .before .args .input .now in
+    let entries = c .before .before .before .if1 .entries in
+    let next = longs-next input (entries - l .i) (l .at) (omega arith) in
+    let fewer : entries - (l .i + 1) ≡ entries - l .i - 1 = omega arith in
+    (l .inv .0, rw (fewer, add-one (l .i), c .long-at .ensures) (rw next at (l .inv .1)), simp length-set (l .inv .2), omega arith, omega arith)
+
+same-length : tie.Need-same-length Inv-loop μ-loop
+same-length c = c .before .loop .inv .2
+
+returns : tie.Need-returns Inv-loop μ-loop
+returns c =
+    let l = c .before .loop in
+    record {
+      count = l .inv .0;
+      entries = rw (longs-end _ (c .before .before .if1 .entries - l .i) (l .at) (omega arith)) at (l .inv .1);
+    }
+
+pub read-list-spec : {M : Type 1} → statement M
+read-list-spec =
+    tie.close
+    (tie.spec
+    Inv-loop
+    μ-loop
+    word-at-requires
+    cast-entries
+    loop-holds
+    long-at-requires
+    mul-table
+    slice-write-table
+    add-i
+    add-at
+    loop-less
+    loop-again
+    same-length
+    returns)

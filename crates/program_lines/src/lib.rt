@@ -1,0 +1,43 @@
+// The text of the program's lines (document 01, "The program"), put on a lent page.
+use calendar_period::CalendarDay;
+use carry::Totals;
+ghost use Prim.Native.Nat.{_+_, _≤_, _<_};
+ghost use lib.ListN.{length};
+ghost use Rattle.calendar_period.specs.Inside.{RealDay};
+ghost use Rattle.text.specs.Inside.{Put};
+ghost use Rattle.program_lines.specs.Lines.{rowOf, dayLine, lastLine};
+
+// Puts a day's line.
+pub fn put_day_line(
+    day: CalendarDay,
+    holidays: &[u32],
+    count: usize,
+    watt_hours: u64,
+    page: &mut [u8],
+    at: usize,
+) -> usize
+    requires { ⌜ RealDay day ⌝ }
+    requires { ⌜ count < 1_000 ⌝ }
+    requires { ⌜ at + 39 ≤ length (now page) ⌝ }
+    ensures { λ r. ⌜ Put (dayLine (now (holidays .entry)) (rowOf (day .date) count «watt_hours»)) (now (page .entry)) at r (now (page .exit)) ⌝ }
+{
+    let at = text::put_date(day.date, page, at);
+    let at = text::put_byte(text::SPACE, page, at);
+    let at = text_fields::put_day_type(day, holidays, page, at);
+    let at = text_fields::put_field(count as u64, page, at);
+    let at = text_fields::put_field(watt_hours, page, at);
+    text::put_byte(text::LINE_FEED, page, at)
+}
+
+// Puts the last line.
+pub fn put_last_line(days: u32, t: Totals, page: &mut [u8], at: usize) -> usize
+    requires { ⌜ at + 90 ≤ length (now page) ⌝ }
+    ensures { λ r. ⌜ Put (lastLine days t) (now (page .entry)) at r (now (page .exit)) ⌝ }
+{
+    let at = text::put_word(b"total", page, at);
+    let at = text_fields::put_field(days as u64, page, at);
+    let at = text_fields::put_field(t.count as u64, page, at);
+    let at = text_fields::put_field(t.total, page, at);
+    let at = text_fields::put_field(t.carry as u64, page, at);
+    text::put_byte(text::LINE_FEED, page, at)
+}

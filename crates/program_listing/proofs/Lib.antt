@@ -1,0 +1,3 @@
+pub mod DayLine
+pub mod LineByLine
+pub mod Listing

@@ -1,0 +1,67 @@
+-- How many rows a period has, and how long the lines are. Assumes nothing.
+use mathlib.Core.List.{List}
+use mathlib.Core.Path.{_≡_, refl, ap}
+use Prim.Native.Nat.{ℕ, zero, suc, _*_, _≤_, _<_}
+use native.Mathlib.Omega.{arith}
+use lib.ListN.{length, length-append, length-map}
+use Rattle.lists.specs.Lists.{sum}
+use Rattle.calendar_dates.specs.declared.Date.{Date}
+use Rattle.calendar_dates.specs.Dates.{nextDay}
+use Rattle.calendar_days.specs.declared.Clock.{Clock}
+use Rattle.calendar_days.specs.declared.Clock.the-variants.{Unchanged, Forward, Back}
+use Rattle.calendar_days.specs.Days.{clock, valuesUnder}
+use Rattle.carry.specs.declared.Totals.{Totals}
+use Rattle.carry.specs.Carry.{lastCarry}
+use Rattle.carry.specs.Energy.{powers}
+use Rattle.carry.proofs.Carry.{length-figures}
+use Rattle.day_powers.specs.DayQuarters.{dayQuarters}
+use Rattle.day_powers.proofs.DayQuarters.{length-day-quarters}
+use Rattle.text.proofs.Text.{decimal-short, decimal-most}
+use Rattle.program_lines.specs.Lines.{rowOf, dayLine, dayLines, lastLine}
+use Rattle.program_listing.specs.Listing.{dayFigures, rows}
+
+-- a day's line has at most 39 characters
+pub day-line-short : (holidays : List ℕ) (d : Date) (count wattHours : ℕ) → count < 1_000 → length (dayLine holidays (rowOf d count wattHours)) ≤ 39
+unfolding dayLine
+day-line-short holidays d count wattHours h =
+    simp length-append (omega (arith, decimal-short count 3 (omega arith) (omega arith), decimal-most wattHours))
+
+-- and the last line at most 90
+pub last-line-short : (days : ℕ) (t : Totals) → length (lastLine days t) ≤ 90
+unfolding lastLine
+last-line-short days t =
+    simp length-append (omega (arith, decimal-most days, decimal-most (t .count), decimal-most (t .total), decimal-most (t .carry)))
+
+pub length-rows : (values : List ℕ) (group : ℕ) (holidays : List ℕ) (yearly n : ℕ) (d : Date) (carry : ℕ) → length (rows values group holidays yearly n d carry) ≡ n
+unfolding rows
+length-rows values group holidays yearly zero d carry = refl
+length-rows values group holidays yearly (suc n) d carry =
+    ap suc (length-rows values group holidays yearly n (nextDay d) (lastCarry yearly (powers (dayQuarters values group holidays d)) carry))
+
+-- the figures of one day are at most 100
+few : (values : List ℕ) (group : ℕ) (holidays : List ℕ) (yearly : ℕ) (d : Date) (carry : ℕ) → length values ≡ 864 →
+    length (dayFigures values group holidays yearly d carry) ≤ 100
+few values group holidays yearly d carry h =
+    let day = dayQuarters values group holidays d in
+    let limit = values-under-small (clock d) in
+    omega (arith, length-figures yearly (powers day) carry, length-map day (λ q. q .power), length-day-quarters values group holidays d h)
+  where
+    values-under-small : (c : Clock) → valuesUnder c ≤ 100
+    values-under-small Unchanged = omega arith
+    values-under-small Forward = omega arith
+    values-under-small Back = omega arith
+
+pub lines-short : (values : List ℕ) (group : ℕ) (holidays : List ℕ) (yearly n : ℕ) (d : Date) (carry : ℕ) → length values ≡ 864 →
+    length (dayLines holidays (rows values group holidays yearly n d carry)) ≤ 39 * n
+unfolding rows dayLines
+lines-short values group holidays yearly zero d carry h = omega arith
+lines-short values group holidays yearly (suc n) d carry h =
+    let figs = dayFigures values group holidays yearly d carry in
+    let next = lastCarry yearly (powers (dayQuarters values group holidays d)) carry in
+    let line = day-line-short holidays d (length figs) (sum figs) (omega (arith, few values group holidays yearly d carry h)) in
+    omega (
+      arith,
+      line,
+      lines-short values group holidays yearly n (nextDay d) next h,
+      length-append (dayLine holidays (rowOf d (length figs) (sum figs))) (dayLines holidays (rows values group holidays yearly n (nextDay d) next)),
+    )

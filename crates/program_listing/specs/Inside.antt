@@ -1,0 +1,43 @@
+-- What the functions of this crate ask and promise of a page. No definition of document 01. A number has at most 20 digits, so a
+-- day's line has at most 39 bytes (10 date, 3 day type, 4 count, 21 Wh, 1 LF), the last one 90 (5, four fields of 21, 1), a refusal
+-- 50 (7, two fields of 21, 1); 1,461 days have at most 146,100 values.
+use mathlib.Core.List.{List}
+use mathlib.Core.Path.{_≡_}
+use Prim.Native.Nat.{ℕ, _+_, _*_, _^_, _≤_, _<_}
+use lib.ListN.{length}
+use Rattle.lists.specs.Lists.{sum}
+use Rattle.calendar_dates.specs.declared.Date.{Date}
+use Rattle.carry.specs.Carry.{figures, lastCarry}
+use Rattle.carry.specs.Energy.{powers}
+use Rattle.day_powers.specs.DayQuarters.{dayQuarters}
+use Rattle.series.specs.Series.{quartersOfDays}
+use Rattle.text.specs.Inside.{Put}
+use Rattle.program_lines.specs.Lines.{rowOf, dayLine, dayLines}
+use Rattle.program_listing.specs.declared.Lines.{Lines}
+use Rattle.program_listing.specs.Listing.{dayFigures, rows}
+
+-- one day's line has room on a page, and its figures have room in the totals
+pub record DayRoom (values : List ℕ) (group : ℕ) (holidays : List ℕ) (yearly : ℕ) (d : Date) (before : Lines) (page : List ℕ) : Type 0 where
+  pub line : before .at + 39 ≤ length page
+  pub count : before .totals .count ≤ 146_100
+  pub total : before .totals .total + sum (dayFigures values group holidays yearly d (before .totals .carry)) < 2 ^ 64
+
+-- one day's line was put behind those before, and its figures were added to their totals
+pub record DayListed (values : List ℕ) (group : ℕ) (holidays : List ℕ) (yearly : ℕ) (d : Date) (before : Lines) (page : List ℕ) (r : Lines) (after : List ℕ) : Type 0 where
+  pub line : Put
+      (dayLine holidays (rowOf d (length (dayFigures values group holidays yearly d (before .totals .carry))) (sum (dayFigures values group holidays yearly d (before .totals .carry)))))
+      page (before .at) (r .at) after
+  pub short : r .at ≤ before .at + 39
+  pub count : r .totals .count ≡ before .totals .count + length (powers (dayQuarters values group holidays d))
+  pub total : r .totals .total ≡ before .totals .total + sum (dayFigures values group holidays yearly d (before .totals .carry))
+  pub carry : r .totals .carry ≡ lastCarry yearly (powers (dayQuarters values group holidays d)) (before .totals .carry)
+
+-- the lines of some days were put on a page, and these are the days' totals
+pub record Listed (values : List ℕ) (group : ℕ) (holidays : List ℕ) (yearly : ℕ) (days : ℕ) (d : Date) (before : List ℕ) (r : Lines) (after : List ℕ) : Type 0 where
+  pub lines : Put (dayLines holidays (rows values group holidays yearly days d 0)) before 0 (r .at) after
+  pub totals : r .totals ≡ record {
+    count = length (quartersOfDays (dayQuarters values group holidays) days d);
+    total = sum (figures yearly (powers (quartersOfDays (dayQuarters values group holidays) days d)) 0);
+    carry = lastCarry yearly (powers (quartersOfDays (dayQuarters values group holidays) days d)) 0;
+  }
+  pub short : r .at ≤ 39 * days

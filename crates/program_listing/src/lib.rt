@@ -1,0 +1,93 @@
+// The program's lines for the days of a period (document 01, "The program"), put on a lent page one after the other.
+use calendar_period::CalendarDay;
+use carry::Totals;
+ghost use mathlib.Core.Path.{_≡_};
+ghost use Prim.Native.Nat.{_≤_};
+ghost use lib.ListN.{length};
+ghost use Rattle.refusal.specs.declared.Verdict.the-variants.{Pass};
+ghost use Rattle.calendar_holidays.specs.Holidays.{holidaysQuestion};
+ghost use Rattle.calendar_period.specs.Inside.{RealDay, RealDays};
+ghost use Rattle.series.specs.Inside.{GroupValues, InRange};
+ghost use Rattle.program_listing.specs.Inside.{DayRoom, DayListed, Listed};
+
+// The place behind the lines so far, and what their days come to.
+pub struct Lines {
+    pub at: usize,
+    pub totals: Totals,
+}
+
+// Expands one day and puts its line behind those before.
+fn list_day(
+    values: &[u16],
+    group: u8,
+    day: CalendarDay,
+    holidays: &[u32],
+    yearly: u32,
+    before: Lines,
+    page: &mut [u8],
+) -> Lines
+    requires { ⌜ GroupValues (now values) ⌝ }
+    requires { ⌜ RealDay day ⌝ }
+    requires { ⌜ holidaysQuestion (now holidays) ≡ Pass ⌝ }
+    requires { ⌜ InRange yearly (before .totals .carry) ⌝ }
+    requires { ⌜ DayRoom (now values) group (now holidays) yearly (day .date) before (now page) ⌝ }
+    ensures { λ r. ⌜ DayListed (now (values .entry)) group (now (holidays .entry)) yearly (day .date) before (now (page .entry)) r (now (page .exit)) ⌝ }
+{
+    let mut figures = [0u32; 100];
+    let t = series::expand_days(
+        values,
+        group,
+        day,
+        1,
+        holidays,
+        yearly,
+        before.totals.carry,
+        &mut figures,
+    );
+    let at = program_lines::put_day_line(day, holidays, t.count, t.total, page, before.at);
+    let count = before.totals.count + t.count;
+    let total = before.totals.total + t.total;
+    Lines {
+        at,
+        totals: Totals {
+            count,
+            total,
+            carry: t.carry,
+        },
+    }
+}
+
+// Expands a period day by day from carry 0 and puts a line for each day at the start of the page.
+pub fn list_days(
+    values: &[u16],
+    group: u8,
+    first: CalendarDay,
+    days: u32,
+    holidays: &[u32],
+    yearly: u32,
+    page: &mut [u8],
+) -> Lines
+    requires { ⌜ GroupValues (now values) ⌝ }
+    requires { ⌜ RealDays first days ⌝ }
+    requires { ⌜ holidaysQuestion (now holidays) ≡ Pass ⌝ }
+    requires { ⌜ InRange yearly 0 ⌝ }
+    requires { ⌜ 57_000 ≤ length (now page) ⌝ }
+    ensures { λ r. ⌜ Listed (now (values .entry)) group (now (holidays .entry)) yearly days (first .date) (now (page .entry)) r (now (page .exit)) ⌝ }
+{
+    let mut day = first;
+    let mut left = days;
+    let mut so_far = Lines {
+        at: 0,
+        totals: Totals {
+            count: 0,
+            total: 0,
+            carry: 0,
+        },
+    };
+    while 0 < left {
+        so_far = list_day(values, group, day, holidays, yearly, so_far, page);
+        day = calendar_period::day_after(day);
+        left -= 1;
+    }
+    so_far
+}

@@ -1,0 +1,17 @@
+// The line of a refusal (document 01, "The program"), put on a lent page.
+use refusal::Verdict;
+ghost use Prim.Native.Nat.{_+_, _≤_};
+ghost use lib.ListN.{length};
+ghost use Rattle.text.specs.Inside.{Put};
+ghost use Rattle.program_refusal.specs.Refused.{refusedLine};
+
+// Puts the line of a refusal.
+pub fn put_refused_line(v: Verdict, page: &mut [u8], at: usize) -> usize
+    requires { ⌜ at + 50 ≤ length (now page) ⌝ }
+    ensures { λ r. ⌜ Put (refusedLine v) (now (page .entry)) at r (now (page .exit)) ⌝ }
+{
+    let at = text::put_word(b"refused", page, at);
+    let at = text_fields::put_field(refusal::number_of(v) as u64, page, at);
+    let at = text_fields::put_field(refusal::place_of(v) as u64, page, at);
+    text::put_byte(text::LINE_FEED, page, at)
+}

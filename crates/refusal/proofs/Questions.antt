@@ -1,0 +1,131 @@
+-- The laws by which the checks are proved: what `ask`, `_then_`, `askEach` and `onPass` come to by what a check found.
+-- Assumes nothing.
+use mathlib.Core.Path.{_≡_, refl, sym, _∙_, ap}
+use mathlib.Core.Bool.{Bool, true, false, _&&_}
+use Prim.Native.Nat.{ℕ, zero, suc, _+_, _-_, _*_, _≤_, _<_}
+use native.Mathlib.Omega.{arith}
+use native.Mathlib.Nat.{suc-mul}
+use denote.Enum.Declared.{tagOf, declared}
+use Rattle.refusal.specs.declared.Verdict.{Verdict}
+use Rattle.refusal.specs.declared.Verdict.the-variants.{Pass, Refused}
+use Rattle.refusal.specs.declared.Refusal.{Refusal}
+use Rattle.refusal.specs.Questions.{ask, _then_, askEach, onPass}
+use Rattle.refusal.proofs.Verdict.{enum}
+
+-- what the `else` of `let Verdict::Pass = v else { .. }` knows of v, and what follows it knows
+abbrev pub IsRefused : Verdict → Type 0
+IsRefused v = tagOf (declared enum) v ≡ 1
+
+abbrev pub IsPass : Verdict → Type 0
+IsPass v = tagOf (declared enum) v ≡ 0
+
+-- no verdict is both
+pub passed-not-refused : {A : Type 0} → IsRefused Pass → A
+passed-not-refused h = let z : _≡_ {A = ℕ} 0 1 = h in absurd (omega arith)
+
+pub passed : (v : Verdict) → IsPass v → v ≡ Pass
+passed Pass h = refl
+passed (Refused r) h = let z : _≡_ {A = ℕ} 1 0 = h in absurd (omega arith)
+
+-- One question.
+pub ask-yes : {b : Bool} (r : Refusal) → b ≡ true → ask b r ≡ Pass
+unfolding ask
+ask-yes r h = rw h
+
+pub ask-no : {b : Bool} (r : Refusal) → b ≡ false → ask b r ≡ Refused r
+unfolding ask
+ask-no r h = rw h
+
+pub ask-not : (b : Bool) (r : Refusal) → (b ≡ true → ⊥) → ask b r ≡ Refused r
+unfolding ask
+ask-not true r never = absurd (never refl)
+ask-not false r never = refl
+
+-- One question after the other.
+pub then-pass : {v : Verdict} (next : Verdict) → v ≡ Pass → (v then next) ≡ next
+unfolding _then_
+then-pass next h = rw h
+
+pub then-refused : (v next : Verdict) → IsRefused v → (v then next) ≡ v
+unfolding _then_
+then-refused Pass next h = passed-not-refused h
+then-refused (Refused r) next h = refl
+
+-- a check answers the refusal v of a question as it is
+pub stops : {v question : Verdict} (next : Verdict) → v ≡ question → IsRefused v → v ≡ (question then next)
+stops {v} next e t = rw (← e) (sym (then-refused v next t))
+
+-- a check goes on to the next question after one that passed
+pub goes-on : {v question answer next : Verdict} → v ≡ question → IsPass v → answer ≡ next → answer ≡ (question then next)
+goes-on {v} e t h = h ∙ sym (then-pass _ (sym e ∙ passed v t))
+
+-- What is answered, or left in memory, on a refusal.
+pub on-refused : {A : Type 0} (v : Verdict) (a b : A) → IsRefused v → onPass v a b ≡ b
+on-refused Pass a b h = passed-not-refused h
+on-refused (Refused r) a b h = refl
+
+-- A check asks `askEach question step n at` by turns: what is left to ask is all that counts.
+module _ (question : ℕ → Verdict) (step : ℕ) where
+  turn : (n at : ℕ) → 0 < n → askEach question step n at ≡ (question at then askEach question step (n - 1) (at + step))
+  unfolding askEach
+  turn zero at h = absurd (omega arith)
+  turn (suc n) at h =
+      let e : n ≡ suc n - 1 = omega arith in
+      ap (λ (m : ℕ). question at then askEach question step m (at + step)) e
+
+  -- no place is left
+  pub each-done : (n at : ℕ) → n ≤ 0 → askEach question step n at ≡ Pass
+  unfolding askEach
+  each-done zero at h = refl
+  each-done (suc n) at h = absurd (omega arith)
+
+  -- the question passed at this place
+  pub each-next : (n at : ℕ) → 0 < n → question at ≡ Pass → askEach question step n at ≡ askEach question step (n - 1) (at + step)
+  each-next n at h p = turn n at h ∙ then-pass (askEach question step (n - 1) (at + step)) p
+
+  -- the question did not pass at this place
+  pub each-refused : (n at : ℕ) {v : Verdict} → 0 < n → v ≡ question at → IsRefused v → askEach question step n at ≡ v
+  each-refused n at {v} h e t =
+      turn n at h ∙ (rw (← e) (then-refused v (askEach question step (n - 1) (at + step)) t))
+
+  -- the question passes at each of the n places
+  pub each-pass : (n at : ℕ) → ((k : ℕ) → k < n → question (at + k * step) ≡ Pass) → askEach question step n at ≡ Pass
+  unfolding askEach
+  each-pass zero at h = refl
+  each-pass (suc n) at h =
+      let first : at + zero * step ≡ at = omega arith in
+      let next : (k : ℕ) → at + suc k * step ≡ at + step + k * step = λ k. omega (arith, suc-mul k step) in
+      then-pass (askEach question step n (at + step)) (rw first at (h zero (omega arith)))
+      ∙ each-pass n (at + step) (λ k l. rw (next k) at (h (suc k) (omega arith)))
+
+-- The other way round: what a check that passed tells of its questions.
+pub ask-passed : (b : Bool) (r : Refusal) → ask b r ≡ Pass → b ≡ true
+unfolding ask
+ask-passed true r h = refl
+ask-passed false r h = cc
+
+pub then-first : (v next : Verdict) → (v then next) ≡ Pass → v ≡ Pass
+unfolding _then_
+then-first Pass next h = refl
+then-first (Refused r) next h = h
+
+pub then-next : (v next : Verdict) → (v then next) ≡ Pass → next ≡ Pass
+then-next v next h = sym (then-pass next (then-first v next h)) ∙ h
+
+-- the question passed at each of the n places
+pub each-passed : (question : ℕ → Verdict) (step n at k : ℕ) → askEach question step n at ≡ Pass → k < n → question (at + k * step) ≡ Pass
+unfolding askEach
+each-passed question step zero at k h l = absurd (omega arith)
+each-passed question step (suc n) at zero h l =
+    let e : at ≡ at + zero * step = omega arith in
+    rw (← e) (then-first (question at) (askEach question step n (at + step)) h)
+each-passed question step (suc n) at (suc k) h l =
+    let e : at + step + k * step ≡ at + suc k * step = omega (arith, suc-mul k step) in
+    rw (← e)
+    (each-passed question step n (at + step) k (then-next (question at) (askEach question step n (at + step)) h)
+    (omega arith))
+
+-- both parts of a test hold
+pub both : (a b : Bool) → (a && b) ≡ true → (a ≡ true) × (b ≡ true)
+both true b h = (refl, h)
+both false b h = let z : _≡_ {A = ℕ} 0 1 = cc in absurd (omega arith)

@@ -1,4 +1,0 @@
-pub mod Requests
-pub mod Pages
-pub mod Room
-pub mod AsExpanded

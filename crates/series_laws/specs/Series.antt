@@ -1,0 +1,32 @@
+-- What holds of a period's quarter hours.
+use mathlib.Core.Path.{_≡_}
+use mathlib.Core.List.{List, _++_}
+use mathlib.Core.Bool.{true}
+use Prim.Native.Nat.{ℕ, _+_}
+use lib.ListN.{length}
+use lib.IntN.{pos, natAbs}
+use Rattle.calendar_dates.specs.declared.Date.{Date}
+use Rattle.calendar_dates.specs.Dates.{isDate, dayOfYear, daysLater}
+use Rattle.calendar_period.specs.Period.{valuesOfDays}
+use Rattle.dynamisation.specs.Dynamisation.{X}
+use Rattle.carry.specs.Energy.{Quarter}
+use Rattle.day_powers.specs.DayQuarters.{dayQuarters}
+use Rattle.series.specs.Series.{quartersOfDays}
+
+-- Three theorems, proved in proofs/Series.antt.
+
+-- two periods, the second from the day after the first, are one, whichever quarter hours a day has
+unfoldable pub PeriodsJoin : Type 0
+PeriodsJoin =
+    (day : Date → List Quarter) (n m : ℕ) (d : Date) →
+    quartersOfDays day (n + m) d ≡ quartersOfDays day n d ++ quartersOfDays day m (daysLater n d)
+
+-- a period has as many quarter hours as its days have values
+unfoldable pub CountedSeries : Type 0
+CountedSeries =
+    (values : List ℕ) (group : ℕ) (holidays : List ℕ) (n : ℕ) (d : Date) → length values ≡ 864 →
+    length (quartersOfDays (dayQuarters values group holidays) n d) ≡ valuesOfDays n d
+
+-- the theorem: X of a date's day is the whole number that its quarter hours have.
+unfoldable pub ExactX : Type 0
+ExactX = (group : ℕ) (d : Date) → isDate d ≡ true → X group (dayOfYear d) ≡ pos (natAbs (X group (dayOfYear d)))

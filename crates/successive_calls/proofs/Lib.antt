@@ -1,7 +1,0 @@
-pub mod Answers
-pub mod Chain
-pub mod Whole
-pub mod Runs
-pub mod Pieces
-pub mod Shown
-pub mod Listing

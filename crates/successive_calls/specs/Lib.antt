@@ -1,2 +1,0 @@
-pub mod SuccessiveCalls
-pub mod WorkedInstance

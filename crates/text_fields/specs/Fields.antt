@@ -1,0 +1,22 @@
+-- Document 01, "The program": the fields of a line.
+use mathlib.Core.List.{List, [], _∷_}
+use Prim.Native.Nat.{ℕ}
+use Rattle.calendar_dates.specs.declared.Date.{Date}
+use Rattle.calendar_days.specs.declared.Season.{Season}
+use Rattle.calendar_days.specs.Days.{season, dayType}
+use Rattle.call_day.specs.Enquiry.{dayTypeFigure}
+use Rattle.text.specs.Text.{space, digit, decimal}
+
+-- "season letter (W, S, T)"
+abbrev pub seasonLetter : Season → ℕ
+seasonLetter Season.Winter = 87
+seasonLetter Season.Summer = 83
+seasonLetter Season.Transition = 84
+
+-- "season letter (W, S, T) with day digit (1 weekday, 2 Saturday, 3 Sunday)"
+abbrev pub dayTypeText : List ℕ → Date → List ℕ
+dayTypeText holidays d = seasonLetter (season d) ∷ digit (dayTypeFigure (dayType d holidays)) ∷ []
+
+-- a number behind the field before it: "fields are split by one space"
+abbrev pub field : ℕ → List ℕ
+field n = space ∷ decimal n

@@ -1,5 +1,0 @@
-pub mod Places
-pub mod Asked
-pub mod Passed
-pub mod Stores
-pub mod RoundTrip

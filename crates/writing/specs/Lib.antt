@@ -1,2 +1,0 @@
-pub mod Writing
-pub mod RoundTrip
