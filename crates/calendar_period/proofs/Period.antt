@@ -1,5 +1,5 @@
--- The values of a period's days, and what questions 7 and 8 say of a period. Assumes nothing.
-use mathlib.Core.Path.{_≡_, _∙_}
+-- What a day knows of itself, the values of a period's days, and what questions 7 and 8 say of a period. Assumes nothing.
+use mathlib.Core.Path.{_≡_, _∙_, ap}
 use mathlib.Core.Bool.{true}
 use Prim.Native.Nat.{ℕ, zero, suc, _+_, _-_, _*_, _≤_, _<_}
 use native.Mathlib.Omega.{arith}
@@ -10,11 +10,21 @@ use Rattle.refusal.specs.declared.Verdict.the-variants.{Pass}
 use Rattle.refusal.specs.Questions.{_then_}
 use Rattle.refusal.proofs.Questions.{ask-yes, then-pass, ask-passed, then-first, then-next, both}
 use Rattle.calendar_dates.specs.declared.Date.{Date}
-use Rattle.calendar_dates.specs.Dates.{dateOf, isDate, dayNumber, nextDay}
+use Rattle.calendar_dates.specs.Dates.{dateOf, isDate, dayOfYear, dayNumber, weekdayOf, nextDay}
 use Rattle.calendar_days.specs.declared.Clock.{Clock}
 use Rattle.calendar_days.specs.declared.Clock.the-variants.{Unchanged, Forward, Back}
 use Rattle.calendar_days.specs.Days.{clock, valuesUnder, valueCount}
+use Rattle.calendar_period.specs.declared.CalendarDay.{CalendarDay}
+use Rattle.calendar_period.specs.Inside.{RealDay}
 use Rattle.calendar_period.specs.Period.{dateQuestion, daysOf, periodQuestion, periodCheck, valuesOfDays}
+
+-- what a day knows of itself
+module _ {day : CalendarDay} (real : RealDay day) where
+  pub own-weekday : day .weekday ≡ weekdayOf (day .date)
+  own-weekday = ap (λ (x : CalendarDay). x .weekday) (real .known)
+
+  pub own-t : day .t ≡ dayOfYear (day .date)
+  own-t = ap (λ (x : CalendarDay). x .t) (real .known)
 
 -- The values of a period's days: at most 100 a day.
 pub clock-small : (c : Clock) → valuesUnder c ≤ 100

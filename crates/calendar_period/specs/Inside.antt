@@ -6,6 +6,7 @@ use Rattle.calendar_dates.specs.declared.Date.{Date}
 use Rattle.calendar_dates.specs.Dates.{isDate, dayOfYear, weekdayOf, AllDates}
 use Rattle.calendar_period.specs.declared.CalendarDay.{CalendarDay}
 
+-- a date with its weekday and its t
 abbrev pub calendarDay : Date → CalendarDay
 calendarDay d = record { date = d; weekday = weekdayOf d; t = dayOfYear d }
 

@@ -15,7 +15,7 @@ ghost use Rattle.file_write_check.specs.Writing.{profilesOf, writeCheck};
 ghost use Rattle.file_write.specs.Buffer.{bufferAfter};
 
 // Mark, version 1 and count.
-pub fn put_header(count: usize, buffer: &mut [u8])
+fn put_header(count: usize, buffer: &mut [u8])
     requires { ⌜ (count < 256) × (6 ≤ length (now buffer)) ⌝ }
     ensures { λ _. ⌜ now (buffer .exit) ≡ sets (now (buffer .entry)) 0 (mark ++ (bytesOf (1 ∷ []) ++ (count ∷ []))) ⌝ }
 {
@@ -44,7 +44,7 @@ fn put_values(values: &[u16], buffer: &mut [u8], at: usize)
 }
 
 // The profiles, after the header.
-pub fn put_profiles(codes: &[u8], values: &[u16], buffer: &mut [u8])
+fn put_profiles(codes: &[u8], values: &[u16], buffer: &mut [u8])
     requires { ⌜ (length (now values) ≡ length (now codes) * 864) × (6 + length (now codes) * 1729 ≤ length (now buffer)) ⌝ }
     ensures { λ _. ⌜ now (buffer .exit) ≡ sets (now (buffer .entry)) 6 (profilesOf 864 (now (codes .entry)) (now (values .entry))) ⌝ }
 {

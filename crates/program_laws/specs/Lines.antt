@@ -35,6 +35,6 @@ pub record AsExpanded (q : Request) : Type 0 where
 unfoldable pub LinesAsExpanded : Type 0
 LinesAsExpanded = (q : Request) → AsExpanded q
 
--- the theorem: it is. Proved in proofs/Room.antt.
+-- the theorem: a page of that length is enough for what is printed for every input. Proved in proofs/Room.antt.
 unfoldable pub EnoughRoom : Type 0
 EnoughRoom = (input : List ℕ) → length (printed input) ≤ pageLength

@@ -1,4 +1,4 @@
--- One real day: its weekday and t, its factor and its table, its powers, none above 40,000, and its figures stored behind those before.
+-- One real day: its t, its factor and its table, its powers, none above 40,000, and its figures stored behind those before.
 -- Assumes nothing.
 use mathlib.Core.Path.{_≡_, sym, _∙_, ap}
 use mathlib.Core.Bool.{true}
@@ -8,7 +8,7 @@ use native.Mathlib.Omega.{arith}
 use lib.ListN.{length, getD, length-map}
 use Rattle.lists.specs.Lists.{sum}
 use Rattle.calendar_dates.specs.declared.Date.{Date}
-use Rattle.calendar_dates.specs.Dates.{isDate, dayOfYear, weekdayOf}
+use Rattle.calendar_dates.specs.Dates.{isDate, dayOfYear}
 use Rattle.calendar_dates.proofs.Dates.{leap-small, day-of-year-range}
 use Rattle.calendar_days.specs.declared.Season.{Season}
 use Rattle.calendar_days.specs.declared.DayType.{DayType}
@@ -16,6 +16,7 @@ use Rattle.calendar_days.specs.declared.Clock.{Clock}
 use Rattle.calendar_days.specs.Days.{season, dayType, clock, positions, valuesUnder}
 use Rattle.calendar_period.specs.declared.CalendarDay.{CalendarDay}
 use Rattle.calendar_period.specs.Inside.{RealDay}
+use Rattle.calendar_period.proofs.Period.{own-t}
 use Rattle.dynamisation.specs.Dynamisation.{F}
 use Rattle.dynamisation.proofs.Days.{Day}
 use Rattle.dynamisation.proofs.Dynamisation.{F-small}
@@ -39,23 +40,17 @@ in-year d h =
     let range = day-of-year-range d h in
     (range .0, omega (arith, leap-small (d .year)))
 
--- what a day knows of itself
+-- what a day's t tells
 module _ {day : CalendarDay} (real : RealDay day) where
-  pub own-weekday : day .weekday ≡ weekdayOf (day .date)
-  own-weekday = ap (λ (x : CalendarDay). x .weekday) (real .known)
-
-  own-t : day .t ≡ dayOfYear (day .date)
-  own-t = ap (λ (x : CalendarDay). x .t) (real .known)
-
   pub t-in-year : Day (day .t)
-  t-in-year = rw own-t (in-year (day .date) (real .real))
+  t-in-year = rw (own-t real) (in-year (day .date) (real .real))
 
   -- the factor of its t, and the table of its season and day type
   pub own-powers : {s : Season} {k : DayType} {index f : ℕ} {all : List ℕ} (values : List ℕ) (group : ℕ) (holidays : List ℕ) →
       s ≡ season (day .date) → k ≡ dayType (day .date) holidays → index ≡ tableIndex s k → f ≡ F group (day .t) →
       all ≡ powersBy f (tableAt index values) → all ≡ powersBy (F group (dayOfYear (day .date))) (dayValues values holidays (day .date))
   unfolding dayValues
-  own-powers values group holidays s k i f e = e ∙ rw (f, own-t, i, s, k)
+  own-powers values group holidays s k i f e = e ∙ rw (f, own-t real, i, s, k)
 
 -- a day's powers, before the clock change and after it
 abbrev pub powersBefore : List ℕ → ℕ → List ℕ → Date → List ℕ

@@ -2,7 +2,8 @@
 -- Assumes nothing.
 use native.Mathlib.Omega.{arith}
 use borrow.Author.Needs.{needs}
-use Rattle.series.proofs.OneDay.{own-weekday, carry-asked, total-fits, added}
+use Rattle.calendar_period.proofs.Period.{own-weekday}
+use Rattle.series.proofs.OneDay.{carry-asked, total-fits, added}
 use Rattle.series.proofs.expand_day.Statement.{statement}
 use Rattle.series.proofs.expand_day.Tie as tie
 

@@ -5,7 +5,8 @@ use borrow.Author.Needs.{needs}
 use Rattle.calendar_holidays.specs.Holidays.{listed}
 use Rattle.calendar_days.specs.Days.{dayTypeWhen}
 use Rattle.dynamisation.proofs.Dynamisation.{F-small}
-use Rattle.series.proofs.OneDay.{own-weekday, t-in-year, own-powers}
+use Rattle.calendar_period.proofs.Period.{own-weekday}
+use Rattle.series.proofs.OneDay.{t-in-year, own-powers}
 use Rattle.series.proofs.powers_on.Statement.{statement}
 use Rattle.series.proofs.powers_on.Tie as tie
 

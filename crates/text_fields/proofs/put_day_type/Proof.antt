@@ -1,7 +1,7 @@
 -- `text_fields::put_day_type` meets its contract: the letter is the season's, the digit the day type's. Assumes nothing.
 use native.Mathlib.Omega.{arith}
 use borrow.Author.Needs.{needs}
-use Rattle.series.proofs.OneDay.{own-weekday}
+use Rattle.calendar_period.proofs.Period.{own-weekday}
 use Rattle.text.proofs.Puts.{put-put}
 use Rattle.text_fields.proofs.Fields.{one-digit, day-type-text}
 use Rattle.text_fields.proofs.put_day_type.Statement.{statement}
