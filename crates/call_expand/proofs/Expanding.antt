@@ -15,9 +15,9 @@ use Rattle.carry.specs.declared.Totals.{Totals}
 use Rattle.carry.specs.Energy.{powers}
 use Rattle.carry.proofs.Carry.{length-figures}
 use Rattle.series.specs.Inside.{Filled}
-use Rattle.call_request.specs.Request.{Request, quarters, series, totals, useQuestion, carryQuestion, requestCheck, outputQuestion, expandCheck}
+use Rattle.call_request.specs.Request.{Request, quarters, series, useQuestion, carryQuestion, requestCheck, outputQuestion, expandCheck}
 use Rattle.call_expand.specs.declared.Expansion.{Expansion}
-use Rattle.call_expand.specs.Expanding.{expansion, outputAfter, Expands}
+use Rattle.call_expand.specs.Expanding.{totals, expansion, outputAfter, Expands}
 
 -- questions 7 to 11
 abbrev pub othersCheck : Request → Verdict

@@ -1,14 +1,27 @@
 -- Document 01, "Series and carry": what a call of expanding answers, and what it leaves in the lent output, accepted and refused.
-use mathlib.Core.List.{List}
 use mathlib.Core.Path.{_≡_}
+use mathlib.Core.List.{List}
 use Prim.Native.Nat.{ℕ}
+use lib.ListN.{length}
+use Rattle.lists.specs.Lists.{sum}
 use Rattle.refusal.specs.declared.Verdict.{Verdict}
 use Rattle.refusal.specs.declared.Verdict.the-variants.{Pass, Refused}
 use Rattle.refusal.specs.Questions.{number, place, lentAfter}
 use Rattle.carry.specs.declared.Totals.{Totals}
-use Rattle.call_request.specs.Request.{Request, series, totals, expandCheck}
+use Rattle.carry.specs.Carry.{lastCarry}
+use Rattle.carry.specs.Energy.{powers}
+use Rattle.call_request.specs.Request.{Request, quarters, series, expandCheck}
 use Rattle.call_expand.specs.declared.Expansion.{Expansion}
 use Rattle.call_expand.specs.declared.ExpansionReport.{ExpansionReport}
+
+-- "The answer holds the count, the total in Wh (the sum of the figures) and the last carry"
+abbrev pub totals : Request → Totals
+totals q =
+    record {
+      count = length (series q);
+      total = sum (series q);
+      carry = lastCarry (q .yearly) (powers (quarters q)) (q .carry);
+    }
 
 -- the answer: the totals where every question passed, else the refusal
 abbrev pub answered : Verdict → Totals → Expansion

@@ -1,9 +1,8 @@
 -- Document 01, "Series and carry" and questions 1 to 12: what a call of expanding is given, and when it is accepted.
 use mathlib.Core.List.{List}
 use Prim.Native.Nat.{ℕ}
-use lib.ListN.{length}
 use lib.Dec.{leb}
-use Rattle.lists.specs.Lists.{sum}
+use lib.ListN.{length}
 use Rattle.refusal.specs.declared.Refusal.the-variants.{BadUse, BadCarry, ShortOutput}
 use Rattle.refusal.specs.declared.Verdict.{Verdict}
 use Rattle.refusal.specs.Questions.{ask, _then_}
@@ -11,9 +10,8 @@ use Rattle.calendar_dates.specs.Dates.{dateOf}
 use Rattle.calendar_holidays.specs.Holidays.{holidaysQuestion}
 use Rattle.calendar_period.specs.Period.{daysOf, periodCheck}
 use Rattle.file_group.specs.Group.{check}
-use Rattle.carry.specs.declared.Totals.{Totals}
 use Rattle.carry.specs.Energy.{Quarter, powers}
-use Rattle.carry.specs.Carry.{figures, lastCarry}
+use Rattle.carry.specs.Carry.{figures}
 use Rattle.series.specs.Series.{quartersOf}
 
 -- what a call is given: the lent file, the wanted group, first and last date, the holiday list, the yearly use A in kWh, the carry
@@ -51,15 +49,6 @@ quarters q = quartersOf (q .file) (q .group) (q .holidays) (daysIn q) (dateOf (q
 
 unfoldable pub series : Request → List ℕ
 series q = figures (q .yearly) (powers (quarters q)) (q .carry)
-
--- "The answer holds the count, the total in Wh (the sum of the figures) and the last carry"
-abbrev pub totals : Request → Totals
-totals q =
-    record {
-      count = length (series q);
-      total = sum (series q);
-      carry = lastCarry (q .yearly) (powers (quarters q)) (q .carry);
-    }
 
 -- 10. "Is A within its range?": "whole kWh, 0 to 1,000,000,000"
 unfoldable pub useQuestion : ℕ → Verdict

@@ -1,8 +1,8 @@
 -- A run's sum keeps to its bound: what goes in comes out as figures or as carry, so the carry costs less than 1 Wh, and the
 -- roundings cost what each quarter hour's does.
 -- Assumes nothing.
-use mathlib.Core.List.{List, [], _∷_}
 use mathlib.Core.Path.{_≡_, refl, ap}
+use mathlib.Core.List.{List, [], _∷_}
 use Prim.Native.Nat.{ℕ, _+_, _*_, _^_, _≤_, _<_}
 use native.Mathlib.Omega.{arith}
 use native.Mathlib.Nat.{mul-add, mul-assoc, mul-left-comm, mul-le-mul-left}

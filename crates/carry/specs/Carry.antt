@@ -1,6 +1,6 @@
 -- Document 01, "Series and carry": the figures that powers Q make with a yearly use A, and the carry they leave.
-use mathlib.Core.List.{List, [], _∷_, _++_}
 use mathlib.Core.Path.{_≡_}
+use mathlib.Core.List.{List, [], _∷_, _++_}
 use Prim.Native.Nat.{ℕ, _+_, _*_, _/_, _%_, _<_}
 use Rattle.lists.specs.Lists.{sum}
 

@@ -1,7 +1,7 @@
 -- Document 01, "Series and carry": a run's exact and static energy, and how far its sum may lie from the exact one. Stated for
 -- any list of quarter hours with P, X and Q, whichever days and tables they come from.
-use mathlib.Core.List.{List, map}
 use mathlib.Core.Path.{_≡_}
+use mathlib.Core.List.{List, map}
 use Prim.Native.Nat.{ℕ, _+_, _*_, _^_, _≤_, _<_}
 use lib.ListN.{length}
 use Rattle.lists.specs.Lists.{sum, Each}

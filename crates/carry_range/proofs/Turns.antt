@@ -5,8 +5,8 @@ use mathlib.Core.List.{List, []}
 use Prim.Native.Nat.{ℕ, _+_, _-_, _*_, _/_, _%_, _^_, _≤_, _<_}
 use native.Mathlib.Omega.{arith}
 use native.Mathlib.Numerals.{add-one}
-use lib.Seq.{sets, slice, slice-cons, slice-empty}
 use lib.ListN.{length, getD, set}
+use lib.Seq.{sets, slice, slice-cons, slice-empty}
 use Rattle.lists.specs.Lists.{sum}
 use Rattle.carry.specs.Carry.{figures, lastCarry}
 use Rattle.carry_range.specs.declared.Carried.{Carried}

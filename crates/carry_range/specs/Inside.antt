@@ -1,6 +1,6 @@
 -- What storing a range's figures asks and comes to. No definition of document 01.
-use mathlib.Core.List.{List}
 use mathlib.Core.Path.{_≡_}
+use mathlib.Core.List.{List}
 use Prim.Native.Nat.{ℕ, _+_, _-_, _^_, _≤_, _<_}
 use lib.ListN.{length, getD}
 use lib.Seq.{sets}

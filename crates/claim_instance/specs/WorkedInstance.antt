@@ -1,6 +1,6 @@
 -- Document 01's listing cut in two, with a refused call between: the assumptions of demand 3 can be met, and what comes of it.
-use mathlib.Core.List.{List, [], _∷_, _++_}
 use mathlib.Core.Path.{_≡_}
+use mathlib.Core.List.{List, [], _∷_, _++_}
 use Prim.Native.Nat.{ℕ, zero, suc}
 use Rattle.lists.specs.Lists.{Each}
 use Rattle.refusal.specs.declared.Refusal.the-variants.{BadCarry}

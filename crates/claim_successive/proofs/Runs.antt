@@ -1,12 +1,12 @@
 -- Any run of the joined figures keeps to its bound: a run's figures are those of its own quarter hours, begun with the carry that
 -- the ones before leave, and each quarter hour is rounded as its day's are. Assumes nothing.
 use mathlib.Core.Path.{_≡_, refl, _∙_, ap}
-use mathlib.Core.List.{List, [], _∷_}
 use mathlib.Core.Bool.{cond}
+use mathlib.Core.List.{List, [], _∷_}
 use Prim.Native.Nat.{ℕ, zero, suc, _≤_, _<_}
 use native.Mathlib.Omega.{arith}
-use lib.ListN.{take, drop}
 use lib.Dec.{eqb}
+use lib.ListN.{take, drop}
 use borrow.Author.Tests.{ne-eqb}
 use Rattle.lists.specs.Lists.{sum, Each}
 use Rattle.lists.proofs.Members.{each-append, each-take, each-drop}

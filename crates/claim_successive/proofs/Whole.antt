@@ -1,7 +1,7 @@
 -- The quarter hours of successive accepted calls are those of the whole period: by turns over the accepted calls. Assumes nothing.
-use mathlib.Core.List.{List, [], _∷_, _++_, append-nil}
 use mathlib.Core.Path.{_≡_, refl, sym, _∙_, ap}
 use mathlib.Core.Bool.{Bool, true, false}
+use mathlib.Core.List.{List, [], _∷_, _++_, append-nil}
 use Prim.Native.Nat.{ℕ, suc, _+_, _-_, _≤_}
 use native.Mathlib.Omega.{arith}
 use Rattle.lists.specs.Lists.{Each}

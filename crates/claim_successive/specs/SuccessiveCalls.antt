@@ -1,20 +1,20 @@
 -- Demand 3, with document 01's "Series and carry": one claim about a list of expanding calls.
-use mathlib.Core.List.{List, [], _∷_, _++_}
-use mathlib.Core.Bool.{Bool, true, false, cond}
 use mathlib.Core.Path.{_≡_}
+use mathlib.Core.Bool.{Bool, true, false, cond}
+use mathlib.Core.List.{List, [], _∷_, _++_}
 use Prim.Native.Nat.{ℕ, _+_, _<_}
-use lib.ListN.{length, take, drop}
 use lib.Dec.{eqb}
+use lib.ListN.{length, take, drop}
 use Rattle.lists.specs.Lists.{sum, Each}
 use Rattle.refusal.specs.declared.Verdict.the-variants.{Pass}
 use Rattle.refusal.specs.Questions.{onPass}
 use Rattle.calendar_dates.specs.Dates.{dateOf, nextDay, daysLater}
 use Rattle.carry.specs.Energy.{Quarter, powers, exactSum, Within, householdBound, otherBound}
 use Rattle.carry.specs.Carry.{figures, lastCarry}
-use Rattle.call_request.specs.Request.{Request, daysIn, quarters, series, totals, requestCheck, outputQuestion, expandCheck}
+use Rattle.call_request.specs.Request.{Request, daysIn, quarters, series, requestCheck, outputQuestion, expandCheck}
 use Rattle.call_expand.specs.declared.Expansion.{Expansion}
 use Rattle.call_expand.specs.declared.Expansion.the-variants.{Expanded, Refused}
-use Rattle.call_expand.specs.Expanding.{answered, expansion, Expands, reported}
+use Rattle.call_expand.specs.Expanding.{totals, answered, expansion, Expands, reported}
 
 -- The calls.
 

@@ -1,13 +1,13 @@
 -- A day's quarter hours: how many they are, their powers after the clock change, none above 40,000, and what their roundings cost.
 -- Assumes nothing.
-use mathlib.Core.List.{List, [], _∷_, _++_, map, map-append, map-map}
 use mathlib.Core.Path.{_≡_, refl, _∙_, ap}
+use mathlib.Core.List.{List, [], _∷_, _++_, map, map-append, map-map}
 use Prim.Native.Nat.{ℕ, zero, suc, _*_, _≤_}
 use native.Mathlib.Omega.{arith}
 use native.Mathlib.Nat.{mul-le-mul, mul-le-mul-left, le-of-lt}
+use lib.IntN.{ℤ, natAbs}
 use lib.ListN.{length, take, drop, getD, length-map}
 use lib.Seq.{getD-drop}
-use lib.IntN.{ℤ, natAbs}
 use Rattle.lists.specs.Lists.{Each}
 use Rattle.lists.proofs.Members.{each-map, each-append, each-take, each-drop}
 use Rattle.calendar_dates.specs.declared.Date.{Date}

@@ -1,8 +1,8 @@
 -- What holds on every day of the year, t = 1 to 366: a test that antt computes day by day, and a law that turns it into
 -- the fact at each t. Here for signed numbers, of which `omega` reads nothing: a number fits an i64, and two are equal.
 -- Assumes nothing.
-use mathlib.Core.Bool.{Bool, true, false, _&&_}
 use mathlib.Core.Path.{_≡_, ap, subst⁻¹}
+use mathlib.Core.Bool.{Bool, true, false, _&&_}
 use mathlib.Core.Logic.{⊎-elim}
 use Prim.Native.Nat.{ℕ, zero, suc, _^_, _≤_}
 use native.Mathlib.Nat.{le-suc-iff}

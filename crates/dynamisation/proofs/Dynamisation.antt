@@ -4,8 +4,8 @@ use mathlib.Core.Path.{_≡_, refl, ap}
 use mathlib.Core.Bool.{Bool, false, _&&_}
 use Prim.Native.Nat.{ℕ, zero, suc, _*_, _^_, _≤_, _<_}
 use native.Mathlib.Omega.{arith}
-use lib.IntN.{ℤ, pos, negsuc, natAbs}
 use lib.Dec.{T, leb, ltb, ltb→lt, leb→le}
+use lib.IntN.{ℤ, pos, negsuc, natAbs}
 use mir.Facts.{and-yes}
 use Rattle.dynamisation.specs.Dynamisation.{householdX, X, halfUp, F}
 use Rattle.dynamisation.proofs.Days.{Day, on-day}

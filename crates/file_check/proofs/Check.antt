@@ -1,8 +1,8 @@
 -- What a file that passed its questions tells, by name: the facts that callers of the reader need.
 -- Each question that passed is turned back into the facts that it asks. Assumes nothing.
 use mathlib.Core.Path.{_≡_}
-use mathlib.Core.List.{List}
 use mathlib.Core.Bool.{_||_}
+use mathlib.Core.List.{List}
 use Prim.Native.Nat.{ℕ, _+_, _-_, _*_, _≤_, _<_}
 use native.Mathlib.Omega.{arith}
 use lib.Dec.{leb, ltb, eqb}

@@ -1,6 +1,6 @@
 -- Document 01, "The profile file": what comparing answers, accepted and refused.
-use mathlib.Core.List.{List, [], _∷_}
 use mathlib.Core.Bool.{Bool, true, false, cond, _&&_}
+use mathlib.Core.List.{List, [], _∷_}
 use Prim.Native.Nat.{ℕ}
 use lib.Dec.{eqb}
 use Rattle.refusal.specs.declared.Verdict.{Verdict}

@@ -1,6 +1,6 @@
 -- What `values_of` and `values_at` promise their callers. No definition of document 01.
-use mathlib.Core.List.{List}
 use mathlib.Core.Path.{_≡_}
+use mathlib.Core.List.{List}
 use Prim.Native.Nat.{ℕ, _+_, _*_}
 use lib.ListN.{take, drop}
 use denote.Ref.{RefT, now}

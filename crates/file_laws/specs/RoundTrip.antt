@@ -1,7 +1,7 @@
 -- Demand 2: "A profile file that we write reads back to the same tables, and an accepted file is rewritten to the same bytes."
 -- Proved in proofs/RoundTrip.antt.
-use mathlib.Core.List.{List, [], _∷_, _++_}
 use mathlib.Core.Path.{_≡_}
+use mathlib.Core.List.{List, [], _∷_, _++_}
 use Prim.Native.Nat.{ℕ, zero, suc, _+_, _*_, _≤_, _<_}
 use lib.ListN.{length, take, drop, getD}
 use Rattle.big_endian.specs.BigEndian.{byteAt, wordsFrom}

@@ -1,6 +1,6 @@
 -- Document 01, "The profile file" and questions 1 to 3: the header, and how the profiles lie.
-use mathlib.Core.List.{List, [], _∷_}
 use mathlib.Core.Bool.{_&&_}
+use mathlib.Core.List.{List, [], _∷_}
 use Prim.Native.Nat.{ℕ, _+_, _*_}
 use lib.Dec.{leb, eqb}
 use lib.ListN.{length}

@@ -1,6 +1,6 @@
 -- Document 01, "The profile file": what locating answers, accepted and refused.
-use mathlib.Core.List.{List, []}
 use mathlib.Core.Path.{_≡_}
+use mathlib.Core.List.{List, []}
 use Prim.Native.Nat.{ℕ, _+_, _*_}
 use lib.ListN.{length, take, drop}
 use denote.Ref.{RefT, now}

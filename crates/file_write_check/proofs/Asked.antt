@@ -1,12 +1,12 @@
 -- Writing's questions 4, 5 and 12, asked of the lent codes and values, are those of the file to be written.
 -- Assumes nothing.
-use mathlib.Core.List.{List}
 use mathlib.Core.Path.{_≡_, refl, sym, _∙_, ap}
 use mathlib.Core.Bool.{_&&_, _||_}
+use mathlib.Core.List.{List}
 use Prim.Native.Nat.{ℕ, zero, suc, _+_, _-_, _*_, _<_}
 use native.Mathlib.Omega.{arith}
-use lib.ListN.{length, take, drop, getD, length-drop}
 use lib.Dec.{leb, ltb, eqb}
+use lib.ListN.{length, take, drop, getD, length-drop}
 use lib.Seq.{length-take-le}
 use Rattle.big_endian.specs.BigEndian.{byteAt, wordAt, wordsFrom, bytesOf}
 use Rattle.refusal.specs.declared.Verdict.{Verdict}

@@ -1,9 +1,9 @@
 -- Document 01, "The profile file": what writing makes of codes and values, and what it asks first.
-use mathlib.Core.List.{List, [], _∷_, _++_}
 use mathlib.Core.Bool.{_&&_}
+use mathlib.Core.List.{List, [], _∷_, _++_}
 use Prim.Native.Nat.{ℕ, _*_}
-use lib.ListN.{length, take, drop}
 use lib.Dec.{leb, eqb}
+use lib.ListN.{length, take, drop}
 use Rattle.big_endian.specs.BigEndian.{bytesOf}
 use Rattle.refusal.specs.declared.Refusal.the-variants.{WrongLength, ShortOutput}
 use Rattle.refusal.specs.declared.Verdict.{Verdict}

@@ -1,7 +1,7 @@
 -- Document 01, "The program": "Standard input: group (1 byte), first and last date, A (4 bytes each), list length (2 bytes), the
 -- dates (4 bytes each), then the profile file; big-endian." And question 13.
-use mathlib.Core.List.{List, []}
 use mathlib.Core.Bool.{_&&_}
+use mathlib.Core.List.{List, []}
 use Prim.Native.Nat.{ℕ, _+_, _*_}
 use lib.Dec.{leb}
 use lib.ListN.{length, drop}

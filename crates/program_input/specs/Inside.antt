@@ -1,6 +1,6 @@
 -- What the functions of this crate require and promise. No definition of document 01.
-use mathlib.Core.List.{List, _++_}
 use mathlib.Core.Path.{_≡_}
+use mathlib.Core.List.{List, _++_}
 use Prim.Native.Nat.{ℕ, _≤_, min}
 use lib.ListN.{length, drop}
 use Rattle.big_endian.specs.BigEndian.{byteAt, longAt, longsFrom}

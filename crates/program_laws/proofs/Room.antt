@@ -14,14 +14,16 @@ use Rattle.calendar_dates.specs.Dates.{dateOf}
 use Rattle.file_layout.specs.Header.{layoutOf}
 use Rattle.file_group.specs.Group.{tableOf}
 use Rattle.file_group.proofs.Group.{table-length}
-use Rattle.call_request.specs.Request.{Request, daysIn, totals, requestCheck}
+use Rattle.call_request.specs.Request.{Request, daysIn, requestCheck}
 use Rattle.call_request.proofs.Request.{sound}
+use Rattle.call_expand.specs.Expanding.{totals}
 use Rattle.text.proofs.Text.{decimal-most}
 use Rattle.program_input.specs.Input.{inputQuestion, requestIn}
 use Rattle.program_lines.specs.Lines.{dayLines, lastLine}
 use Rattle.program_refusal.specs.Refused.{refusedLine}
 use Rattle.program_listing.proofs.Listing.{last-line-short, lines-short}
-use Rattle.program_answer.specs.Answer.{rowsOf, linesFor, pageLength}
+use Rattle.program_request.specs.Accepted.{rowsOf, pageLength}
+use Rattle.program_answer.specs.Answer.{linesFor}
 use Rattle.program_response.specs.declared.Response.{Response}
 use Rattle.program_response.specs.declared.Response.the-variants.{Written, NoRoom}
 use Rattle.program_response.specs.Printed.{printed, responseTo}

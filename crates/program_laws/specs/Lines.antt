@@ -1,18 +1,18 @@
 -- The figures of a request's lines are what expanding answers, and a page has room for them.
-use mathlib.Core.List.{List, [], _∷_, map}
 use mathlib.Core.Path.{_≡_}
+use mathlib.Core.List.{List, [], _∷_, map}
 use Prim.Native.Nat.{ℕ, _≤_}
 use lib.ListN.{length}
 use Rattle.lists.specs.Lists.{sum}
 use Rattle.refusal.specs.declared.Refusal.{Refusal}
 use Rattle.refusal.specs.declared.Verdict.the-variants.{Pass, Refused}
 use Rattle.calendar_dates.specs.Dates.{dateOf}
-use Rattle.call_request.specs.Request.{Request, request, daysIn, series, totals, requestCheck}
+use Rattle.call_request.specs.Request.{Request, request, daysIn, series, requestCheck}
 use Rattle.call_expand.specs.declared.Expansion.{Expansion}
 use Rattle.call_expand.specs.declared.Expansion.the-variants.{Expanded}
-use Rattle.call_expand.specs.Expanding.{expansion}
+use Rattle.call_expand.specs.Expanding.{totals, expansion}
 use Rattle.program_lines.specs.Lines.{rowOf}
-use Rattle.program_answer.specs.Answer.{rowsOf, pageLength}
+use Rattle.program_request.specs.Accepted.{rowsOf, pageLength}
 use Rattle.program_response.specs.Printed.{printed}
 
 -- the same request with an output of its own: an input's request has none

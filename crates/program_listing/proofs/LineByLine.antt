@@ -1,8 +1,8 @@
 -- A period's lines, one after the other: what is put, with the lines of the days left, is the whole. Laws for the loop's start, turn
 -- and end. The totals follow by series' law of the days left.
 -- Assumes nothing.
-use mathlib.Core.List.{List, [], _++_, append-nil, append-assoc}
 use mathlib.Core.Path.{_≡_, refl, sym, _∙_}
+use mathlib.Core.List.{List, [], _++_, append-nil, append-assoc}
 use Prim.Native.Nat.{ℕ, zero, suc, _+_, _-_, _*_, _≤_, _<_}
 use native.Mathlib.Omega.{arith}
 use lib.ListN.{length}

@@ -1,6 +1,6 @@
 -- How many rows a period has, and how long the lines are. Assumes nothing.
-use mathlib.Core.List.{List}
 use mathlib.Core.Path.{_≡_, refl, ap}
+use mathlib.Core.List.{List}
 use Prim.Native.Nat.{ℕ, zero, suc, _*_, _≤_, _<_}
 use native.Mathlib.Omega.{arith}
 use lib.ListN.{length, length-append, length-map}

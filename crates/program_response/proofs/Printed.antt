@@ -11,7 +11,8 @@ use Rattle.refusal.proofs.Questions.{IsRefused, then-pass, stops}
 use Rattle.text.specs.Inside.{Put}
 use Rattle.program_input.specs.Input.{inputQuestion, requestIn}
 use Rattle.program_refusal.specs.Refused.{refusedLine}
-use Rattle.program_answer.specs.Answer.{linesOf, pageLength}
+use Rattle.program_request.specs.Accepted.{pageLength}
+use Rattle.program_answer.specs.Answer.{linesOf}
 use Rattle.program_answer.proofs.Answer.{refused}
 use Rattle.program_response.specs.declared.Response.the-variants.{Written, NoRoom}
 use Rattle.program_response.specs.Printed.{printed, responseTo, pageAfter}

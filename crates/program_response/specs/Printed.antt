@@ -1,13 +1,14 @@
 -- Document 01, "The program": what it prints for an input, every byte of it.
-use mathlib.Core.List.{List, _++_}
 use mathlib.Core.Bool.{cond}
+use mathlib.Core.List.{List, _++_}
 use Prim.Native.Nat.{ℕ}
 use lib.Dec.{leb}
 use lib.ListN.{length, drop}
 use Rattle.refusal.specs.Questions.{_then_}
 use Rattle.call_request.specs.Request.{requestCheck}
 use Rattle.program_input.specs.Input.{inputQuestion, requestIn}
-use Rattle.program_answer.specs.Answer.{linesFor, pageLength}
+use Rattle.program_request.specs.Accepted.{pageLength}
+use Rattle.program_answer.specs.Answer.{linesFor}
 use Rattle.program_response.specs.declared.Response.{Response}
 use Rattle.program_response.specs.declared.Response.the-variants.{Written, NoRoom}
 

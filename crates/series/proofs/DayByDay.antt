@@ -2,8 +2,8 @@
 -- the loop's start, turn and end. And the whole's total fits: no power is above 40,000, and no day has more than 100.
 -- Assumes nothing.
 use mathlib.Core.Path.{_≡_, refl, sym, _∙_, ap}
-use mathlib.Core.List.{List, [], _∷_, _++_, map-append}
 use mathlib.Core.Bool.{true}
+use mathlib.Core.List.{List, [], _∷_, _++_, map-append}
 use Prim.Native.Nat.{ℕ, zero, suc, _+_, _-_, _*_, _^_, _≤_, _<_}
 use native.Mathlib.Nat.{zero-add, mul-le-mul}
 use native.Mathlib.Omega.{arith}

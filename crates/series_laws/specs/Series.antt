@@ -1,10 +1,10 @@
 -- What holds of a period's quarter hours.
 use mathlib.Core.Path.{_≡_}
-use mathlib.Core.List.{List, _++_}
 use mathlib.Core.Bool.{true}
+use mathlib.Core.List.{List, _++_}
 use Prim.Native.Nat.{ℕ, _+_}
-use lib.ListN.{length}
 use lib.IntN.{pos, natAbs}
+use lib.ListN.{length}
 use Rattle.calendar_dates.specs.declared.Date.{Date}
 use Rattle.calendar_dates.specs.Dates.{isDate, dayOfYear, daysLater}
 use Rattle.calendar_period.specs.Period.{valuesOfDays}

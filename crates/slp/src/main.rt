@@ -8,7 +8,7 @@ use program_response::Response;
 ghost use mathlib.Core.Path.{_≡_};
 ghost use Prim.Native.Nat.{_≤_};
 ghost use lib.ListN.{length, take};
-ghost use Rattle.program_answer.specs.Answer.{pageLength};
+ghost use Rattle.program_request.specs.Accepted.{pageLength};
 ghost use Rattle.program_response.specs.Printed.{pageAfter};
 
 fn main() {

@@ -1,7 +1,7 @@
 -- The decimal digits of a number: how many there are, and that its last digits, as many as there are, are all.
 -- Assumes nothing.
-use mathlib.Core.List.{List, [], _∷_, _++_}
 use mathlib.Core.Path.{_≡_, refl, _∙_}
+use mathlib.Core.List.{List, [], _∷_, _++_}
 use mathlib.Core.Logic.{⊎-elim}
 use Prim.Native.Nat.{ℕ, zero, suc, _/_, _%_, _^_, _≤_, _<_}
 use native.Mathlib.Omega.{arith}

@@ -1,8 +1,8 @@
 // Text (document 01, "The program"): numbers and dates put into a lent page, one behind the other.
 use calendar_dates::Date;
-ghost use mathlib.Core.List.{[], _∷_};
 ghost use mathlib.Core.Path.{_≡_};
 ghost use mathlib.Core.Bool.{true};
+ghost use mathlib.Core.List.{[], _∷_};
 ghost use Prim.Native.Nat.{_+_, _≤_, _<_};
 ghost use lib.ListN.{length};
 ghost use Rattle.calendar_dates.specs.Dates.{isDate};

@@ -1,13 +1,13 @@
 -- `calendar_holidays::is_listed` meets its contract: what is not listed in the entries passed is listed just where it is in the rest.
 -- Assumes nothing.
+use mathlib.Core.Path.{_≡_, refl, sym, _∙_}
 use mathlib.Core.Bool.{true, false}
 use mathlib.Core.List.{List}
-use mathlib.Core.Path.{_≡_, refl, sym, _∙_}
 use Prim.Native.Nat.{ℕ, _+_, _-_, _≤_, _<_}
 use native.Mathlib.Numerals.{add-one}
 use native.Mathlib.Omega.{arith}
-use lib.Seq.{drop-cons}
 use lib.ListN.{length, drop, getD, drop-of-length-le}
+use lib.Seq.{drop-cons}
 use borrow.Author.Tests.{eq-eqb, ne-eqb}
 use borrow.Author.Needs.{needs}
 use Rattle.calendar_holidays.specs.Holidays.{listed}

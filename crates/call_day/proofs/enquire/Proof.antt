@@ -1,8 +1,8 @@
 -- `call_day::enquire` meets its contract: the questions in order, each refusal passed on.
 -- Assumes nothing.
 use mathlib.Core.Path.{_≡_, sym, _∙_, ap}
-use mathlib.Core.List.{List}
 use mathlib.Core.Bool.{true}
+use mathlib.Core.List.{List}
 use Prim.Native.Nat.{ℕ}
 use borrow.Author.Needs.{needs}
 use Rattle.refusal.specs.declared.Verdict.{Verdict}

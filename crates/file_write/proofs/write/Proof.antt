@@ -1,7 +1,7 @@
 -- `file_write::write` meets its contract: a refusal leaves the buffer as it was, and what is put into it otherwise is the file.
 -- Assumes nothing.
-use mathlib.Core.List.{List}
 use mathlib.Core.Path.{_≡_, sym, _∙_}
+use mathlib.Core.List.{List}
 use Prim.Native.Nat.{ℕ, _+_, _*_, _≤_}
 use native.Mathlib.Omega.{arith}
 use lib.ListN.{length}

@@ -1,7 +1,7 @@
 -- `file_write_check::write_check` meets its contract: each question is that of the definition, and the chain stops at the
 -- first that did not pass. Assumes nothing.
-use mathlib.Core.List.{List}
 use mathlib.Core.Path.{_≡_, refl, sym, _∙_}
+use mathlib.Core.List.{List}
 use Prim.Native.Nat.{ℕ}
 use borrow.Author.Needs.{needs}
 use Rattle.refusal.specs.declared.Verdict.the-variants.{Pass}

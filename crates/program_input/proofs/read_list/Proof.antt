@@ -1,7 +1,7 @@
 -- `read_list` meets its contract. The loop's invariant: storing the entries that are left gives what storing all of them would
 -- give. The measure is how many are left. Assumes nothing.
-use mathlib.Core.List.{List, _++_}
 use mathlib.Core.Path.{_≡_, refl, _∙_, ap}
+use mathlib.Core.List.{List, _++_}
 use mathlib.Core.Logic.{⊎-elim}
 use Prim.Native.Nat.{ℕ, _+_, _-_, _*_, _≤_}
 use native.Mathlib.Omega.{arith}

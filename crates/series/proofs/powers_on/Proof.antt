@@ -4,8 +4,8 @@ use native.Mathlib.Omega.{arith}
 use borrow.Author.Needs.{needs}
 use Rattle.calendar_holidays.specs.Holidays.{listed}
 use Rattle.calendar_days.specs.Days.{dayTypeWhen}
-use Rattle.dynamisation.proofs.Dynamisation.{F-small}
 use Rattle.calendar_period.proofs.Period.{own-weekday}
+use Rattle.dynamisation.proofs.Dynamisation.{F-small}
 use Rattle.series.proofs.OneDay.{t-in-year, own-powers}
 use Rattle.series.proofs.powers_on.Statement.{statement}
 use Rattle.series.proofs.powers_on.Tie as tie

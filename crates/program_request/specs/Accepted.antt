@@ -1,0 +1,21 @@
+-- Document 01, "The program": the lines of an accepted request.
+use mathlib.Core.List.{List, _++_}
+use Prim.Native.Nat.{ℕ}
+use Rattle.calendar_dates.specs.Dates.{dateOf}
+use Rattle.file_group.specs.Group.{tableOf}
+use Rattle.call_request.specs.Request.{Request, daysIn}
+use Rattle.call_expand.specs.Expanding.{totals}
+use Rattle.program_lines.specs.Lines.{Row, dayLines, lastLine}
+use Rattle.program_listing.specs.Listing.{rows}
+
+-- "Then it expands day by day": a request's rows; "from carry 0", which an input's request has
+abbrev pub rowsOf : Request → List Row
+rowsOf q = rows (tableOf (q .file) (q .group)) (q .group) (q .holidays) (q .yearly) (daysIn q) (dateOf (q .first)) (q .carry)
+
+-- a line "for each day", then "the last line"
+abbrev pub acceptedLines : Request → List ℕ
+acceptedLines q = dayLines (q .holidays) (rowsOf q) ++ lastLine (daysIn q) (totals q)
+
+-- the room that is enough for every input, by our own choice: 1,461 days with 20 digits in every field have lines of fewer than 57,100 bytes
+abbrev pub pageLength : ℕ
+pageLength = 65_536
