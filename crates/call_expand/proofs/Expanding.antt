@@ -7,7 +7,7 @@ use borrow.Author.Tests.{le-leb}
 use Rattle.refusal.specs.declared.Verdict.{Verdict}
 use Rattle.refusal.specs.declared.Verdict.the-variants.{Pass, Refused}
 use Rattle.refusal.specs.Questions.{_then_}
-use Rattle.refusal.proofs.Questions.{IsRefused, passed-not-refused, ask-yes, then-pass, stops}
+use Rattle.refusal.proofs.Questions.{IsRefused, passed-not-refused, ask-yes, then-pass, stops, then-first}
 use Rattle.calendar_holidays.specs.Holidays.{holidaysQuestion}
 use Rattle.calendar_period.specs.Period.{periodCheck}
 use Rattle.file_group.specs.Group.{check}
@@ -15,9 +15,10 @@ use Rattle.carry.specs.declared.Totals.{Totals}
 use Rattle.carry.specs.Energy.{powers}
 use Rattle.carry.proofs.Carry.{length-figures}
 use Rattle.series.specs.Inside.{Filled}
-use Rattle.call_request.specs.Request.{Request, quarters, series, useQuestion, carryQuestion, requestCheck, outputQuestion, expandCheck}
+use Rattle.call_request.specs.Request.{Request, quarters, series, useQuestion, carryQuestion, requestCheck, outputQuestion}
+use Rattle.call_request.proofs.Request.{Sound, sound}
 use Rattle.call_expand.specs.declared.Expansion.{Expansion}
-use Rattle.call_expand.specs.Expanding.{totals, expansion, outputAfter, Expands}
+use Rattle.call_expand.specs.Expanding.{expandCheck, totals, expansion, outputAfter, Expands}
 
 -- questions 7 to 11
 abbrev pub othersCheck : Request → Verdict
@@ -52,3 +53,8 @@ module _ (q : Request) where
       let pass : expandCheck q ≡ Pass = then-pass (outputQuestion q) p ∙ ask-yes _ (le-leb _ _ l) in
       let n = length-figures (q .yearly) (powers (quarters q)) (q .carry) in
       record { answers = rw (pass, f .totals, n); leaves = rw (pass, f .stored, n) }
+
+-- what a call that was not refused is known to be
+pub request-sound : (q : Request) → expandCheck q ≡ Pass → Sound q
+unfolding expandCheck
+request-sound q h = sound q (then-first (requestCheck q) (outputQuestion q) h)

@@ -1,4 +1,5 @@
--- Document 01, "Series and carry": what a call of expanding answers, and what it leaves in the lent output, accepted and refused.
+-- Document 01, "Series and carry" and "Expanding has questions 1 to 12": what a call of expanding answers, and what it leaves in the
+-- lent output, accepted and refused.
 use mathlib.Core.Path.{_≡_}
 use mathlib.Core.List.{List}
 use Prim.Native.Nat.{ℕ}
@@ -6,13 +7,17 @@ use lib.ListN.{length}
 use Rattle.lists.specs.Lists.{sum}
 use Rattle.refusal.specs.declared.Verdict.{Verdict}
 use Rattle.refusal.specs.declared.Verdict.the-variants.{Pass, Refused}
-use Rattle.refusal.specs.Questions.{number, place, lentAfter}
+use Rattle.refusal.specs.Questions.{number, place, _then_, lentAfter}
 use Rattle.carry.specs.declared.Totals.{Totals}
 use Rattle.carry.specs.Carry.{lastCarry}
 use Rattle.carry.specs.Energy.{powers}
-use Rattle.call_request.specs.Request.{Request, quarters, series, expandCheck}
+use Rattle.call_request.specs.Request.{Request, quarters, series, requestCheck, outputQuestion}
 use Rattle.call_expand.specs.declared.Expansion.{Expansion}
 use Rattle.call_expand.specs.declared.ExpansionReport.{ExpansionReport}
+
+-- questions 1 to 12
+unfoldable pub expandCheck : Request → Verdict
+expandCheck q = requestCheck q then outputQuestion q
 
 -- "The answer holds the count, the total in Wh (the sum of the figures) and the last carry"
 abbrev pub totals : Request → Totals

@@ -17,7 +17,7 @@ use Rattle.file_group.proofs.Group.{table-length}
 use Rattle.carry.specs.Energy.{powers}
 use Rattle.carry.proofs.Carry.{length-figures}
 use Rattle.series.proofs.Series.{length-quarters}
-use Rattle.call_request.specs.Request.{Request, daysIn, quarters, series, useQuestion, carryQuestion, requestCheck, outputQuestion, expandCheck}
+use Rattle.call_request.specs.Request.{Request, daysIn, quarters, series, useQuestion, carryQuestion, requestCheck, outputQuestion}
 
 -- questions 1 to 11 passed
 pub record Sound (q : Request) : Type 0 where
@@ -51,11 +51,7 @@ module _ (q : Request) where
       ∙ then-pass _ (s .holidays)
       ∙ then-pass _ (ask-yes BadUse (le-leb (q .yearly) 1_000_000_000 (s .yearly)))
       ∙ ask-yes BadCarry (le-leb (q .carry) 39_999 (omega arith))
-
   -- question 12 passed too
-  pub request-sound : expandCheck q ≡ Pass → Sound q
-  unfolding expandCheck
-  request-sound h = sound (then-first (requestCheck q) (outputQuestion q) h)
 
 -- "entries needed"
 module _ (q : Request) where

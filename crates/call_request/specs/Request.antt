@@ -1,4 +1,5 @@
--- Document 01, "Series and carry" and questions 1 to 12: what a call of expanding is given, and when it is accepted.
+-- Document 01, "Series and carry" and questions 1 to 12: what a call of expanding is given, the series that it asks for, and what is
+-- asked of it.
 use mathlib.Core.List.{List}
 use Prim.Native.Nat.{ℕ}
 use lib.Dec.{leb}
@@ -69,7 +70,3 @@ requestCheck q =
 -- 12. "Is the lent output long enough?": "place = entries needed"
 abbrev pub outputQuestion : Request → Verdict
 outputQuestion q = ask (leb (length (series q)) (length (q .output))) (ShortOutput (length (series q)))
-
--- questions 1 to 12
-unfoldable pub expandCheck : Request → Verdict
-expandCheck q = requestCheck q then outputQuestion q

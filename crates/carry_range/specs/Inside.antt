@@ -8,7 +8,7 @@ use Rattle.lists.specs.Lists.{sum}
 use Rattle.carry.specs.Carry.{figures, lastCarry}
 use Rattle.carry_range.specs.declared.Carried.{Carried}
 
--- what is asked of a day: powers of at most 4,000 W (a factor is at most 2), "Yearly use A is in whole kWh, 0 to 1,000,000,000. The
+-- what is asked of a range: powers of at most 4,000 W (a factor is at most 2), "Yearly use A is in whole kWh, 0 to 1,000,000,000. The
 -- carry is 0 to 39,999"
 pub record SmallPowers (powers : List ℕ) (yearly carry : ℕ) : Type 0 where
   pub small : (i : ℕ) → getD powers i 0 ≤ 40_000

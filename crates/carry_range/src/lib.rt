@@ -3,7 +3,7 @@ ghost use Prim.Native.Nat.{_≤_};
 ghost use lib.Seq.{slice};
 ghost use Rattle.carry_range.specs.Inside.{SmallPowers, InDay, RangeCarried};
 
-// What a day's quarter hours come to: the sum of its figures in Wh, and the carry that it leaves.
+// What some quarter hours come to: the sum of their figures in Wh, and the carry that they leave.
 pub struct Carried {
     pub total: u64,
     pub carry: u32,

@@ -13,9 +13,10 @@ use Rattle.calendar_period.specs.Period.{daysOf}
 use Rattle.calendar_period.proofs.Period.{Period}
 use Rattle.calendar_laws.proofs.Periods.{period-days}
 use Rattle.file_group.specs.Group.{check}
-use Rattle.call_request.specs.Request.{Request, outputQuestion, expandCheck}
-use Rattle.call_request.proofs.Request.{Sound, passes, request-sound}
-use Rattle.call_expand.specs.Expanding.{totals, answered, expansion}
+use Rattle.call_request.specs.Request.{Request, outputQuestion}
+use Rattle.call_request.proofs.Request.{Sound, passes}
+use Rattle.call_expand.specs.Expanding.{expandCheck, totals, answered, expansion}
+use Rattle.call_expand.proofs.Expanding.{request-sound}
 use Rattle.claim_successive.specs.SuccessiveCalls.{Call, ByContract, isAccepted, Common, Piece, OutputAlone}
 use Rattle.claim_successive.proofs.Answers.{took}
 

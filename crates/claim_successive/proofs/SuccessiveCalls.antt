@@ -11,9 +11,9 @@ use Rattle.refusal.specs.Questions.{onPass}
 use Rattle.carry.specs.Carry.{figures, lastCarry}
 use Rattle.carry.specs.Energy.{Quarter, powers}
 use Rattle.carry.proofs.Carry.{carry-small}
-use Rattle.call_request.specs.Request.{Request, quarters, series, expandCheck}
+use Rattle.call_request.specs.Request.{Request, quarters, series}
 use Rattle.call_request.proofs.Request.{Sound}
-use Rattle.call_expand.specs.Expanding.{expansion}
+use Rattle.call_expand.specs.Expanding.{expandCheck, expansion}
 use Rattle.claim_successive.specs.SuccessiveCalls.{Call, ByContract, isAccepted, accepted, figuresOf, joinedFigures, Common, commonOf, Successive, IsWhole, SameAsWhole, joinedQuarters, NothingJoined, AsDefined, JoinedCalls, SuccessiveCalls}
 use Rattle.claim_successive.proofs.Chain.{ComesTo, in-common, comes-to}
 use Rattle.claim_successive.proofs.Whole.{quarters-in, allQuarters, covers, joined-accepted, each-sound}

@@ -10,7 +10,7 @@ use Rattle.dynamisation.specs.Dynamisation.{X, F, Q}
 use Rattle.carry.specs.Energy.{Quarter}
 use Rattle.day_powers.specs.DayTable.{dayValues}
 
--- P, X and Q of a group's value on the day t of the year; `ExactX` below says that natAbs is X itself
+-- P, X and Q of a group's value on the day t of the year; theorem `ExactX` (series_laws) says that natAbs is X itself
 abbrev pub quarter : ℕ → ℕ → ℕ → Quarter
 quarter group t p = record { value = p; exact = natAbs (X group t); power = Q p (F group t) }
 

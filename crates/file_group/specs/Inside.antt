@@ -1,4 +1,4 @@
--- What `values_of` and `values_at` promise their callers. No definition of document 01.
+-- What `values_of`, and `values_at` of `file_read`, promise their callers. No definition of document 01.
 use mathlib.Core.Path.{_≡_}
 use mathlib.Core.List.{List}
 use Prim.Native.Nat.{ℕ, _+_, _*_}

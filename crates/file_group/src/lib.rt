@@ -1,5 +1,4 @@
 // A wanted group of a profile file (document 01): question 6, and where the group's values stand.
-// Bytes are read in place: nothing is copied but a table that the caller asks for.
 use refusal::Refusal;
 use refusal::Verdict;
 ghost use mathlib.Core.Path.{_≡_};

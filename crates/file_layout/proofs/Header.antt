@@ -1,7 +1,8 @@
--- What a header that passed questions 1 to 3 tells, by name. Assumes nothing.
+-- What a header that passed questions 1 to 3 tells, by name, and that such a file is small. Assumes nothing.
 use mathlib.Core.Path.{_≡_}
 use mathlib.Core.List.{List}
-use Prim.Native.Nat.{ℕ, _≤_}
+use Prim.Native.Nat.{ℕ, _*_, _≤_, _<_}
+use native.Mathlib.Nat.{mul-le-mul}
 use native.Mathlib.Omega.{arith}
 use lib.ListN.{length}
 use borrow.Author.Tests.{leb-true, eqb-true}
@@ -67,3 +68,7 @@ headed file h =
       most = leb-true _ _ (ends .1);
       laid = record { sound = sound file; whole = eqb-true _ _ (counted .1) };
     }
+
+-- a file of at most 11 small profiles is small
+pub files-small : (n k : ℕ) → n ≤ 11 → k < 65_536 → n * k ≤ 11 * 65_536
+files-small n k hn hk = mul-le-mul {m₂ = 65_536} hn (omega arith)

@@ -1,5 +1,5 @@
--- `Each` goes with a run's parts: what every quarter hour of a run has, those of its parts have too. By induction over the run.
--- Assumes nothing.
+-- `Each` goes with a list's parts: what every member of a list has, those of its parts have too. By induction over the list. Assumes
+-- nothing.
 use mathlib.Core.List.{List, [], _∷_, _++_, map}
 use Prim.Native.Nat.{ℕ, zero, suc}
 use lib.ListN.{take, drop}

@@ -9,7 +9,8 @@ use Rattle.call_request.specs.Request.{Request, requestCheck}
 use Rattle.text.specs.Inside.{Put}
 use Rattle.program_refusal.specs.Refused.{refusedLine}
 use Rattle.program_request.specs.Accepted.{acceptedLines}
-use Rattle.program_answer.specs.Answer.{linesFor, linesOf}
+use Rattle.program_answer.specs.Answer.{linesFor}
+use Rattle.program_answer.specs.Inside.{linesOf}
 
 -- a refusal
 pub refused : (q : Request) {v w : Verdict} {before after : List ℕ} {r : ℕ} → v ≡ w → IsRefused v → Put (refusedLine v) before 0 r after → Put (linesFor w q) before 0 r after

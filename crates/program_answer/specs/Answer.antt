@@ -3,7 +3,7 @@ use mathlib.Core.List.{List}
 use Prim.Native.Nat.{ℕ}
 use Rattle.refusal.specs.declared.Verdict.{Verdict}
 use Rattle.refusal.specs.declared.Verdict.the-variants.{Pass, Refused}
-use Rattle.call_request.specs.Request.{Request, requestCheck}
+use Rattle.call_request.specs.Request.{Request}
 use Rattle.program_refusal.specs.Refused.{refusedLine}
 use Rattle.program_request.specs.Accepted.{acceptedLines}
 
@@ -11,7 +11,3 @@ use Rattle.program_request.specs.Accepted.{acceptedLines}
 unfoldable pub linesFor : Verdict → Request → List ℕ
 linesFor Pass q = acceptedLines q
 linesFor (Refused r) q = refusedLine (Refused r)
-
--- questions 1 to 11 decide
-abbrev pub linesOf : Request → List ℕ
-linesOf q = linesFor (requestCheck q) q

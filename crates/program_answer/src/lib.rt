@@ -6,7 +6,7 @@ ghost use lib.ListN.{length};
 ghost use Rattle.call_request.specs.Request.{request};
 ghost use Rattle.text.specs.Inside.{Put};
 ghost use Rattle.program_request.specs.Accepted.{pageLength};
-ghost use Rattle.program_answer.specs.Answer.{linesOf};
+ghost use Rattle.program_answer.specs.Inside.{linesOf};
 
 // Puts the lines of a request: those of its days and the last one, or the refusal.
 pub fn put_answer(

@@ -1,6 +1,4 @@
--- The rows' counts and Wh add up to the period's; the rows of two periods join; no line is longer than 39 characters. By
--- induction over the days.
--- Assumes nothing.
+-- The rows' counts and Wh add up to the period's, and the rows of two periods join. By induction over the days. Assumes nothing.
 use mathlib.Core.Path.{_≡_, refl}
 use mathlib.Core.List.{_++_, map-append}
 use Prim.Native.Nat.{zero, suc}

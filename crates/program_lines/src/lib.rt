@@ -7,7 +7,7 @@ ghost use Rattle.calendar_period.specs.Inside.{RealDay};
 ghost use Rattle.text.specs.Inside.{Put};
 ghost use Rattle.program_lines.specs.Lines.{rowOf, dayLine, lastLine};
 
-// Puts a day's line.
+// Puts a day's line, of at most 39 bytes: 10 date, 3 day type, 4 count, 21 Wh (a number has at most 20 digits), 1 LF.
 pub fn put_day_line(
     day: CalendarDay,
     holidays: &[u32],
@@ -29,7 +29,7 @@ pub fn put_day_line(
     text::put_byte(text::LINE_FEED, page, at)
 }
 
-// Puts the last line.
+// Puts the last line, of at most 90 bytes: 5 for the word, four fields of 21, 1 LF.
 pub fn put_last_line(days: u32, t: Totals, page: &mut [u8], at: usize) -> usize
     requires { ⌜ at + 90 ≤ length (now page) ⌝ }
     ensures { λ r. ⌜ Put (lastLine days t) (now (page .entry)) at r (now (page .exit)) ⌝ }

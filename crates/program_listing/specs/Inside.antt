@@ -1,6 +1,5 @@
--- What the functions of this crate ask and promise of a page. No definition of document 01. A number has at most 20 digits, so a
--- day's line has at most 39 bytes (10 date, 3 day type, 4 count, 21 Wh, 1 LF), the last one 90 (5, four fields of 21, 1), a refusal
--- 50 (7, two fields of 21, 1); 1,461 days have at most 146,100 values.
+-- What the functions of this crate ask and promise of a page: a day's line has at most 39 bytes, and 1,461 days have at most 146,100
+-- values. No definition of document 01.
 use mathlib.Core.Path.{_≡_}
 use mathlib.Core.List.{List}
 use Prim.Native.Nat.{ℕ, _+_, _*_, _^_, _≤_, _<_}

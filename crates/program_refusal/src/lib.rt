@@ -5,7 +5,7 @@ ghost use lib.ListN.{length};
 ghost use Rattle.text.specs.Inside.{Put};
 ghost use Rattle.program_refusal.specs.Refused.{refusedLine};
 
-// Puts the line of a refusal.
+// Puts the line of a refusal, of at most 50 bytes: 7 for the word, two fields of 21, 1 LF.
 pub fn put_refused_line(v: Verdict, page: &mut [u8], at: usize) -> usize
     requires { ⌜ at + 50 ≤ length (now page) ⌝ }
     ensures { λ r. ⌜ Put (refusedLine v) (now (page .entry)) at r (now (page .exit)) ⌝ }

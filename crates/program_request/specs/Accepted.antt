@@ -16,6 +16,6 @@ rowsOf q = rows (tableOf (q .file) (q .group)) (q .group) (q .holidays) (q .year
 abbrev pub acceptedLines : Request → List ℕ
 acceptedLines q = dayLines (q .holidays) (rowsOf q) ++ lastLine (daysIn q) (totals q)
 
--- the room that is enough for every input, by our own choice: 1,461 days with 20 digits in every field have lines of fewer than 57,100 bytes
+-- the room that is enough for every input, by our own choice: 1,461 days have lines of at most 39 bytes, and a last line of at most 90
 abbrev pub pageLength : ℕ
 pageLength = 65_536

@@ -13,7 +13,8 @@ use Rattle.program_input.specs.declared.Head.{Head}
 use Rattle.program_input.specs.Input.{headLength, listLength, fileStart, requestIn}
 use Rattle.program_input.specs.Inside.{headOf, askedEntries}
 use Rattle.program_input.proofs.Input.{asked-alike, asked-list, whole-list}
-use Rattle.program_answer.specs.Answer.{linesFor, linesOf}
+use Rattle.program_answer.specs.Answer.{linesFor}
+use Rattle.program_answer.specs.Inside.{linesOf}
 
 -- the request of an input, its list cut behind the entries that question 9 can ask about
 module _ (input : List ℕ) where

@@ -12,7 +12,7 @@ use Rattle.text.specs.Inside.{Put}
 use Rattle.program_input.specs.Input.{inputQuestion, requestIn}
 use Rattle.program_refusal.specs.Refused.{refusedLine}
 use Rattle.program_request.specs.Accepted.{pageLength}
-use Rattle.program_answer.specs.Answer.{linesOf}
+use Rattle.program_answer.specs.Inside.{linesOf}
 use Rattle.program_answer.proofs.Answer.{refused}
 use Rattle.program_response.specs.declared.Response.the-variants.{Written, NoRoom}
 use Rattle.program_response.specs.Printed.{printed, responseTo, pageAfter}

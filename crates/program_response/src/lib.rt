@@ -7,7 +7,7 @@ ghost use Rattle.text.specs.Inside.{Put};
 ghost use Rattle.program_input.specs.Input.{requestIn};
 ghost use Rattle.program_input.specs.Inside.{Complete};
 ghost use Rattle.program_request.specs.Accepted.{pageLength};
-ghost use Rattle.program_answer.specs.Answer.{linesOf};
+ghost use Rattle.program_answer.specs.Inside.{linesOf};
 ghost use Rattle.program_response.specs.Printed.{responseTo, pageAfter};
 
 // The room that is enough for every input.

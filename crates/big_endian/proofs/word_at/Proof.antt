@@ -1,4 +1,4 @@
--- `file::word_at` meets its contract: what is read are two bytes, each below 256. Assumes nothing.
+-- `big_endian::word_at` meets its contract: what is read are two bytes, each below 256. Assumes nothing.
 use mathlib.Core.Path.{refl}
 use Prim.Native.Nat.{ℕ, _+_, _<_}
 use native.Mathlib.Omega.{arith}

@@ -1,4 +1,4 @@
--- `file::check_file` meets its contract: each refusal is passed on as it is, and the questions that passed show that the profiles
+-- `file_check::check_file` meets its contract: each refusal is passed on as it is, and the questions that passed show that the profiles
 -- lie in the file. Assumes nothing.
 use mathlib.Core.Path.{_≡_, sym, _∙_, ap}
 use mathlib.Core.List.{List}

@@ -1,4 +1,4 @@
--- `file::code_question` meets its contract: each test decides one part of the question, and a code that is not the first one
+-- `file_check::code_question` meets its contract: each test decides one part of the question, and a code that is not the first one
 -- has another a profile before it. Assumes nothing.
 use mathlib.Core.Path.{sym}
 use Prim.Native.Nat.{_-_}

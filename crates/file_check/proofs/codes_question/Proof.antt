@@ -1,4 +1,4 @@
--- `file::codes_question` meets its contract. The loop's invariant: what is left to ask is all that counts, the profiles that are
+-- `file_check::codes_question` meets its contract. The loop's invariant: what is left to ask is all that counts, the profiles that are
 -- left end where the file ends, and before each code but the first one there is a profile. The measure is how many are left.
 -- Assumes nothing.
 use mathlib.Core.Path.{_≡_, refl, sym, _∙_}

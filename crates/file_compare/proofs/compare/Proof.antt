@@ -1,4 +1,4 @@
--- `comparing::compare` meets its contract: each refusal is answered as it is, and else the two found parts hold the groups' tables.
+-- `file_compare::compare` meets its contract: each refusal is answered as it is, and else the two found parts hold the groups' tables.
 -- Assumes nothing.
 use mathlib.Core.Path.{_≡_, refl, sym, _∙_}
 use mathlib.Core.Bool.{true, false}

@@ -1,4 +1,4 @@
--- `comparing::same_values` meets its contract. The loop's invariant: whether the values that are left agree is all that counts. The
+-- `file_compare::same_values` meets its contract. The loop's invariant: whether the values that are left agree is all that counts. The
 -- measure is how many are left. Assumes nothing.
 use mathlib.Core.Path.{_≡_, sym, _∙_}
 use mathlib.Core.Bool.{true, false}

@@ -1,4 +1,4 @@
--- `file::header_questions` meets its contract: each refusal is passed on as it is, and the next question is asked where the one
+-- `file_layout::header_questions` meets its contract: each refusal is passed on as it is, and the next question is asked where the one
 -- before it passed. Assumes nothing.
 use mathlib.Core.Path.{_≡_, sym, _∙_, ap}
 use borrow.Author.Needs.{needs}

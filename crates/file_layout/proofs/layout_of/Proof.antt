@@ -1,4 +1,4 @@
--- `file::layout_of` meets its contract: the byte read is the count, and the rest is fixed. Assumes nothing.
+-- `file_layout::layout_of` meets its contract: the byte read is the count, and the rest is fixed. Assumes nothing.
 use mathlib.Core.Path.{refl}
 use native.Mathlib.Omega.{arith}
 use borrow.Author.Needs.{needs}

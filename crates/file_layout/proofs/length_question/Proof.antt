@@ -1,4 +1,4 @@
--- `file::length_question` meets its contract: each test decides one part of the question; with at most 11 small profiles the
+-- `file_layout::length_question` meets its contract: each test decides one part of the question; with at most 11 small profiles the
 -- length does not wrap. Assumes nothing.
 use mathlib.Core.Path.{sym}
 use Prim.Native.Nat.{_*_, _≤_}
@@ -6,10 +6,10 @@ use native.Mathlib.Omega.{arith}
 use lib.ListN.{length}
 use borrow.Author.Tests.{le-leb, lt-leb, eq-eqb, ne-eqb}
 use borrow.Author.Needs.{needs}
-use Rattle.lists.proofs.Strides.{files-small}
 use Rattle.refusal.specs.declared.Refusal.the-variants.{WrongLength}
 use Rattle.refusal.proofs.Questions.{ask-yes, ask-no}
 use Rattle.file_layout.specs.Header.{fileLength, lengthQuestion}
+use Rattle.file_layout.proofs.Header.{files-small}
 use Rattle.file_layout.proofs.length_question.Statement.{statement}
 use Rattle.file_layout.proofs.length_question.Tie as tie
 

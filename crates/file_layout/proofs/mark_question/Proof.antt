@@ -1,4 +1,4 @@
--- `file::mark_question` meets its contract: each test decides one part of the question. Assumes nothing.
+-- `file_layout::mark_question` meets its contract: each test decides one part of the question. Assumes nothing.
 use mathlib.Core.Path.{sym}
 use lib.ListN.{length}
 use borrow.Author.Tests.{le-leb, lt-leb, eq-eqb, ne-eqb}

@@ -1,4 +1,4 @@
--- `file::version_question` meets its contract: the number that was read decides the question. Assumes nothing.
+-- `file_layout::version_question` meets its contract: the number that was read decides the question. Assumes nothing.
 use mathlib.Core.Path.{sym, _∙_}
 use native.Mathlib.Omega.{arith}
 use borrow.Author.Needs.{needs}

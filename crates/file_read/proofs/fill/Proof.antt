@@ -1,4 +1,4 @@
--- `reading::fill` meets its contract. The loop's invariant: storing the values that are left gives what storing all of them would
+-- `file_read::fill` meets its contract. The loop's invariant: storing the values that are left gives what storing all of them would
 -- give. The measure is how many are left. Assumes nothing.
 use mathlib.Core.Path.{_≡_, refl, _∙_}
 use Prim.Native.Nat.{_+_, _*_, _≤_}

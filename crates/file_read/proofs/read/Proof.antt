@@ -1,4 +1,4 @@
--- `reading::read` meets its contract: a refusal keeps the table, and else the found profile's part holds the group's values.
+-- `file_read::read` meets its contract: a refusal keeps the table, and else the found profile's part holds the group's values.
 -- Assumes nothing.
 use mathlib.Core.Path.{_≡_, refl, sym, _∙_, ap}
 use Prim.Native.Nat.{ℕ, _≤_, _<_}

@@ -1,4 +1,4 @@
--- `reading::values_at` meets its contract: the part's 864 values fill the array, and nothing is left of it. Assumes nothing.
+-- `file_read::values_at` meets its contract: the part's 864 values fill the array, and nothing is left of it. Assumes nothing.
 use mathlib.Core.Path.{_≡_, refl, _∙_, ap}
 use mathlib.Core.List.{List, _++_, append-nil}
 use Prim.Native.Nat.{ℕ, _+_, _/_, _≤_}

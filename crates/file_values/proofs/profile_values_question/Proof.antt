@@ -1,4 +1,4 @@
--- `file::profile_values_question` meets its contract: where the quick look passes, every value does. The loop's invariant: what
+-- `file_values::profile_values_question` meets its contract: where the quick look passes, every value does. The loop's invariant: what
 -- is left to ask is all that counts, and it is in the file. The measure is how many values are left. Assumes nothing.
 use mathlib.Core.Path.{_≡_, refl, sym, _∙_}
 use Prim.Native.Nat.{_+_, _*_, _≤_}

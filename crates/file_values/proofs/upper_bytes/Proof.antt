@@ -1,4 +1,4 @@
--- `file::upper_bytes` meets its contract. The loop's invariant: each upper byte that was read is at most the lower byte of what
+-- `file_values::upper_bytes` meets its contract. The loop's invariant: each upper byte that was read is at most the lower byte of what
 -- is joined so far, and the values that are left end where all do. The measure is how many are left. Assumes nothing.
 use mathlib.Core.Path.{_≡_}
 use Prim.Native.Nat.{ℕ, _+_, _-_, _*_, _≤_, _<_}

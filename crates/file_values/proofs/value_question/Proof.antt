@@ -1,4 +1,4 @@
--- `file::value_question` meets its contract: the number that was read decides the question. Assumes nothing.
+-- `file_values::value_question` meets its contract: the number that was read decides the question. Assumes nothing.
 use mathlib.Core.Path.{sym}
 use native.Mathlib.Omega.{arith}
 use borrow.Author.Needs.{needs}

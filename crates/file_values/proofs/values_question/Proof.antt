@@ -1,4 +1,4 @@
--- `file::values_question` meets its contract. The loop's invariant: what is left to ask is all that counts, and the profiles that
+-- `file_values::values_question` meets its contract. The loop's invariant: what is left to ask is all that counts, and the profiles that
 -- are left end where the file ends. The measure is how many are left. Assumes nothing.
 use mathlib.Core.Path.{_≡_, refl, sym, _∙_}
 use Prim.Native.Nat.{_+_, _*_}

@@ -1,4 +1,4 @@
--- `file_of` meets its contract: the file begins behind the list, and takes the rest of the input. Assumes nothing.
+-- `program_input::file_of` meets its contract: the file begins behind the list, and takes the rest of the input. Assumes nothing.
 use mathlib.Core.Path.{_≡_}
 use mathlib.Core.List.{List}
 use Prim.Native.Nat.{ℕ, _-_}

@@ -1,4 +1,4 @@
--- `head_of` meets its contract: each number is read where it stands. Assumes nothing.
+-- `program_input::head_of` meets its contract: each number is read where it stands. Assumes nothing.
 use borrow.Author.Needs.{needs}
 use Rattle.program_input.proofs.head_of.Statement.{statement}
 use Rattle.program_input.proofs.head_of.Tie as tie

@@ -1,4 +1,4 @@
--- `input_question` meets its contract: each test decides one part of the question. Assumes nothing.
+-- `program_input::input_question` meets its contract: each test decides one part of the question. Assumes nothing.
 use mathlib.Core.Path.{sym}
 use native.Mathlib.Omega.{arith}
 use lib.ListN.{length}

@@ -1,4 +1,4 @@
--- `read_list` meets its contract. The loop's invariant: storing the entries that are left gives what storing all of them would
+-- `program_input::read_list` meets its contract. The loop's invariant: storing the entries that are left gives what storing all of them would
 -- give. The measure is how many are left. Assumes nothing.
 use mathlib.Core.Path.{_≡_, refl, _∙_, ap}
 use mathlib.Core.List.{List, _++_}

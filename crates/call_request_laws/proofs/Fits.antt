@@ -17,7 +17,7 @@ use Rattle.series.proofs.DayByDay.{Small, all-small, whole-fits}
 use Rattle.call_request.specs.Request.{daysIn, quarters, series}
 use Rattle.call_request.proofs.Request.{sound, entries-needed}
 use Rattle.call_request.proofs.Given.{table-values, real-days}
-use Rattle.call_expand_laws.specs.Fits.{FiguresFit, LongestSeries}
+use Rattle.call_request_laws.specs.Fits.{FiguresFit, LongestSeries}
 
 -- small powers make small figures
 figures-small : (yearly : ℕ) (ps : List ℕ) (carry : ℕ) → yearly ≤ 10 ^ 9 → carry < 40_000 → Small ps → Each (λ figure. figure < 2 ^ 32) (figures yearly ps carry)

@@ -1,1 +1,0 @@
-// Theorems about expanding: figures and totals fit, and the longest series. There is no code.
