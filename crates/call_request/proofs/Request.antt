@@ -17,7 +17,7 @@ use Rattle.file_group.proofs.Group.{table-length}
 use Rattle.carry.specs.Energy.{powers}
 use Rattle.carry.proofs.Carry.{length-figures}
 use Rattle.series.proofs.Series.{length-quarters}
-use Rattle.call_request.specs.Request.{Request, daysIn, quarters, series, useQuestion, carryQuestion, requestCheck, outputQuestion}
+use Rattle.call_request.specs.Request.{Request, daysIn, quarters, series, useQuestion, carryQuestion, requestCheck}
 
 -- questions 1 to 11 passed
 pub record Sound (q : Request) : Type 0 where

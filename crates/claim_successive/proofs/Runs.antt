@@ -10,6 +10,7 @@ use lib.ListN.{take, drop}
 use borrow.Author.Tests.{ne-eqb}
 use Rattle.lists.specs.Lists.{sum, Each}
 use Rattle.lists.proofs.Members.{each-append, each-take, each-drop}
+use Rattle.lists.proofs.Parts.{map-take, map-drop}
 use Rattle.calendar_dates.specs.declared.Date.{Date}
 use Rattle.calendar_dates.specs.Dates.{dateOf, dayOfYear, daysLater}
 use Rattle.calendar_dates.proofs.Dates.{leap-small, day-of-year-range}
@@ -20,7 +21,7 @@ use Rattle.carry.specs.Energy.{Quarter, powers, exactSum, Rounded, Within, hous
 use Rattle.carry.proofs.Carry.{carry-small, figures-take, figures-drop}
 use Rattle.carry.proofs.Energy.{bounded}
 use Rattle.day_powers.specs.DayQuarters.{dayQuarters}
-use Rattle.day_powers.proofs.DayQuarters.{map-take, map-drop, day-rounded, day-undynamised}
+use Rattle.day_powers.proofs.DayQuarters.{day-rounded, day-undynamised}
 use Rattle.series.proofs.Series.{each-quarter}
 use Rattle.call_request.specs.Request.{Request, daysIn, quarters}
 use Rattle.call_request.proofs.Request.{Sound}

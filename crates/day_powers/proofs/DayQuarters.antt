@@ -1,14 +1,15 @@
 -- A day's quarter hours: how many they are, their powers after the clock change, none above 40,000, and what their roundings cost.
 -- Assumes nothing.
 use mathlib.Core.Path.{_≡_, refl, _∙_, ap}
-use mathlib.Core.List.{List, [], _∷_, _++_, map, map-append, map-map}
-use Prim.Native.Nat.{ℕ, zero, suc, _*_, _≤_}
+use mathlib.Core.List.{List, map, map-map}
+use Prim.Native.Nat.{ℕ, suc, _*_, _≤_}
 use native.Mathlib.Omega.{arith}
 use native.Mathlib.Nat.{mul-le-mul, mul-le-mul-left, le-of-lt}
 use lib.IntN.{ℤ, natAbs}
 use lib.ListN.{length, take, drop, getD, length-map}
 use lib.Seq.{getD-drop}
 use Rattle.lists.specs.Lists.{Each}
+use Rattle.lists.proofs.Parts.{map-parts, take-small}
 use Rattle.lists.proofs.Members.{each-map, each-append, each-take, each-drop}
 use Rattle.calendar_dates.specs.declared.Date.{Date}
 use Rattle.calendar_dates.specs.Dates.{dayOfYear}
@@ -35,32 +36,13 @@ module _ {A : Type 0} (property : A → Type 0) where
 
 -- `map` of a day after the clock change
 module _ {A B : Type 0} (f : A → B) where
-  pub map-take : (n : ℕ) (xs : List A) → map f (take n xs) ≡ take n (map f xs)
-  map-take zero xs = refl
-  map-take (suc n) [] = refl
-  map-take (suc n) (x ∷ xs) = ap (λ (rest : List B). f x ∷ rest) (map-take n xs)
-
-  pub map-drop : (n : ℕ) (xs : List A) → map f (drop n xs) ≡ drop n (map f xs)
-  map-drop zero xs = refl
-  map-drop (suc n) [] = refl
-  map-drop (suc n) (x ∷ xs) = map-drop n xs
-
-  map-parts : (a b : ℕ) (xs : List A) → map f (take a xs ++ drop b xs) ≡ take a (map f xs) ++ drop b (map f xs)
-  map-parts a b xs = rw (map-append f (take a xs) (drop b xs), map-take a xs, map-drop b xs)
-
   map-positions : (c : Clock) (day : List A) → map f (positions c day) ≡ positions c (map f day)
   unfolding positions
   map-positions Unchanged day = refl
-  map-positions Forward day = map-parts 8 12 day
-  map-positions Back day = map-parts 12 8 day
+  map-positions Forward day = map-parts f 8 12 day
+  map-positions Back day = map-parts f 12 8 day
 
 -- no power of a table is above 40,000, where no value and no factor is above 20,000
-take-small : (n limit : ℕ) (xs : List ℕ) → ((i : ℕ) → getD xs i 0 ≤ limit) → (i : ℕ) → getD (take n xs) i 0 ≤ limit
-take-small zero limit xs h i = omega arith
-take-small (suc n) limit [] h i = omega arith
-take-small (suc n) limit (x ∷ xs) h zero = h 0
-take-small (suc n) limit (x ∷ xs) h (suc i) = take-small n limit xs (λ j. h (suc j)) i
-
 pub powers-small : (values : List ℕ) (index f : ℕ) → ((i : ℕ) → getD values i 0 ≤ 20_000) → f ≤ 20_000 →
     (i : ℕ) → getD (powersBy f (tableAt index values)) i 0 ≤ 40_000
 unfolding Q

@@ -4,7 +4,6 @@ use mathlib.Core.List.{[]}
 use Prim.Native.Nat.{ℕ}
 use native.Mathlib.Omega.{arith}
 use borrow.Author.Needs.{needs}
-use Rattle.refusal.specs.declared.Verdict.the-variants.{Pass}
 use Rattle.calendar_dates.specs.Dates.{dateOf, isDate}
 use Rattle.calendar_period.specs.Inside.{calendarDay, RealDays}
 use Rattle.file_check.proofs.Check.{accepted as file-accepted}
@@ -12,7 +11,7 @@ use Rattle.file_group.specs.declared.Found.the-variants.{At, Nothing}
 use Rattle.file_group.specs.declared.Found.{Found}
 use Rattle.file_group.specs.Group.{groupIn, tableOf}
 use Rattle.file_group.proofs.Group.{found-inside, Checked, checked}
-use Rattle.call_request.specs.Request.{Request, request, daysIn, requestCheck}
+use Rattle.call_request.specs.Request.{Request, request, daysIn}
 use Rattle.call_request.proofs.Request.{Sound, sound}
 use Rattle.call_request.proofs.Given.{table-is, group-values, dates, real-days}
 use Rattle.program_request.proofs.Accepted.{accepted}

@@ -1,0 +1,27 @@
+-- What goes with a list's parts: `map`, and a limit of every member. By induction over the list. Assumes nothing.
+use mathlib.Core.Path.{_≡_, refl, ap}
+use mathlib.Core.List.{List, [], _∷_, _++_, map, map-append}
+use Prim.Native.Nat.{ℕ, zero, suc, _≤_}
+use native.Mathlib.Omega.{arith}
+use lib.ListN.{take, drop, getD}
+
+module _ {A B : Type 0} (f : A → B) where
+  pub map-take : (n : ℕ) (xs : List A) → map f (take n xs) ≡ take n (map f xs)
+  map-take zero xs = refl
+  map-take (suc n) [] = refl
+  map-take (suc n) (x ∷ xs) = ap (λ (rest : List B). f x ∷ rest) (map-take n xs)
+
+  pub map-drop : (n : ℕ) (xs : List A) → map f (drop n xs) ≡ drop n (map f xs)
+  map-drop zero xs = refl
+  map-drop (suc n) [] = refl
+  map-drop (suc n) (x ∷ xs) = map-drop n xs
+
+  pub map-parts : (a b : ℕ) (xs : List A) → map f (take a xs ++ drop b xs) ≡ take a (map f xs) ++ drop b (map f xs)
+  map-parts a b xs = rw (map-append f (take a xs) (drop b xs), map-take a xs, map-drop b xs)
+
+-- no member of a part is above a limit where none of the list is
+pub take-small : (n limit : ℕ) (xs : List ℕ) → ((i : ℕ) → getD xs i 0 ≤ limit) → (i : ℕ) → getD (take n xs) i 0 ≤ limit
+take-small zero limit xs h i = omega arith
+take-small (suc n) limit [] h i = omega arith
+take-small (suc n) limit (x ∷ xs) h zero = h 0
+take-small (suc n) limit (x ∷ xs) h (suc i) = take-small n limit xs (λ j. h (suc j)) i
