@@ -1,5 +1,5 @@
-//! The documents name what is there: the must-fail edits, functions and paths that README.md and docs/*.md cite exist, and
-//! docs/TRACE.md cites every must-fail edit.
+//! The documents name what is there: the must-fail edits, functions and paths that README.md and docs/*.md cite exist, definitions
+//! stand in the files that docs/TRACE.md names, docs/TRACE.md cites every must-fail edit, and docs/ARCHITECTURE.md every crate.
 mod repository;
 
 use std::collections::BTreeSet;
@@ -231,6 +231,60 @@ fn the_trace_names_every_edit() {
     let missing = edits.iter().filter(|edit| !named.contains(*edit));
     let faults: Vec<String> = missing
         .map(|edit| format!("docs/TRACE.md: `{edit}` is not named"))
+        .collect();
+    expect_none(&faults);
+}
+
+/// The rows "file | definitions" of docs/TRACE.md: each definition is declared in one of the row's files.
+#[test]
+fn definitions_stand_where_the_trace_says() {
+    let text = fs::read_to_string(repository::path("docs/TRACE.md")).unwrap();
+    let mut rows = 0;
+    let mut faults = Vec::new();
+    for (line, row) in (1..).zip(text.lines()) {
+        let cells: Vec<&str> = row.trim_matches('|').split(" | ").collect();
+        let [files, definitions] = cells[..] else {
+            continue;
+        };
+        let files = quoted_words(files);
+        if files.is_empty() || !files.iter().all(|file| file.ends_with(".antt")) {
+            continue;
+        }
+        rows += 1;
+        let declarations: String = files
+            .iter()
+            .filter_map(|file| fs::read_to_string(repository::path("crates").join(file)).ok())
+            .collect();
+        let missing = quoted_words(definitions)
+            .into_iter()
+            .filter(|name| !defines(&declarations, name));
+        faults.extend(missing.map(|name| {
+            format!("docs/TRACE.md, line {line}: `{name}` is not declared in {files:?}")
+        }));
+    }
+    assert!(rows > 0, "docs/TRACE.md has no row of definitions");
+    expect_none(&faults);
+}
+
+/// Whether a file of definitions declares this name: `abbrev pub NAME :`, `pub record NAME (..)`.
+fn defines(declarations: &str, name: &str) -> bool {
+    declarations.lines().any(|line| {
+        let mut words = line.split_whitespace();
+        let declared = words
+            .by_ref()
+            .find(|word| !["abbrev", "unfoldable", "pub", "record"].contains(word));
+        line.contains("pub ") && declared == Some(name)
+    })
+}
+
+#[test]
+fn the_architecture_names_every_crate() {
+    let text = fs::read_to_string(repository::path("docs/ARCHITECTURE.md")).unwrap();
+    let named: BTreeSet<String> = text.lines().flat_map(quoted_words).collect();
+    let faults: Vec<String> = crates()
+        .iter()
+        .filter(|name| !named.contains(*name))
+        .map(|name| format!("docs/ARCHITECTURE.md: crate `{name}` is not named"))
         .collect();
     expect_none(&faults);
 }
