@@ -12,8 +12,8 @@ use Rattle.calendar_days.specs.declared.Clock.the-variants.{Unchanged, Forward,
 use Rattle.calendar_days.specs.Days.{positions, valuesUnder}
 use Rattle.carry.specs.Carry.{figures, lastCarry, EveryCut}
 use Rattle.carry.proofs.Carry.{figures-append, carry-append, length-figures, carry-small, every-cut}
-use Rattle.carry_range.specs.declared.Carried.{Carried}
-use Rattle.carry_range.specs.Inside.{SmallPowers, InDay, RangeCarried}
+use Rattle.carry_quotients.specs.declared.Carried.{Carried}
+use Rattle.carry_quotients.specs.Inside.{SmallPowers, InDay, RangeCarried}
 use Rattle.carry_day.specs.Inside.{DayCarried, firstEnd, secondStart}
 
 -- the two ranges of a clock lie in the day, and have its values together

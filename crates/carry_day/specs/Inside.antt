@@ -8,7 +8,7 @@ use Rattle.calendar_days.specs.declared.Clock.{Clock}
 use Rattle.calendar_days.specs.declared.Clock.the-variants.{Unchanged, Forward, Back}
 use Rattle.calendar_days.specs.Days.{positions, valuesUnder}
 use Rattle.carry.specs.Carry.{figures, lastCarry}
-use Rattle.carry_range.specs.declared.Carried.{Carried}
+use Rattle.carry_quotients.specs.declared.Carried.{Carried}
 
 -- the figures of the day's positions after the clock change, stored from `at` on, and what they come to
 pub record DayCarried (powers : List ℕ) (clock : Clock) (yearly carry : ℕ) (before : List ℕ) (at : ℕ) (r : Carried) (after : List ℕ) : Type 0 where

@@ -22,9 +22,10 @@ use Rattle.file_check.proofs.Check.{Accepted, accepted}
 use Rattle.file_group.specs.declared.Found.the-variants.{At}
 use Rattle.file_group.specs.declared.Found.{Found}
 use Rattle.file_group.specs.Group.{groupIn, isFound, groupQuestion, valuesAt}
-use Rattle.file_write_check.specs.Writing.{profilesOf, written, roomQuestion, writeCheck}
+use Rattle.file_written.specs.Written.{profilesOf, written}
+use Rattle.file_written.proofs.Written.{length-written, code-at, values-at}
+use Rattle.file_write_check.specs.WriteCheck.{roomQuestion, writeCheck}
 use Rattle.file_write_check.proofs.Passed.{Amounts, amount-passes, Writable, writable}
-use Rattle.file_write_check.proofs.Writing.{length-written, code-at, values-at}
 use Rattle.file_laws.specs.RoundTrip.{Below, codesFrom, valuesFrom, codesOf, valuesOf, WrittenReadsBack, AcceptedIsRewritten}
 use Rattle.file_laws.proofs.Codes.{finds}
 

@@ -10,7 +10,8 @@ use Rattle.file_layout.specs.declared.Layout.{Layout}
 use Rattle.file_layout.specs.Header.{headerLength, layoutOf, profileLength}
 use Rattle.file_check.specs.Check.{fileCheck}
 use Rattle.file_group.specs.Group.{check, tableOf}
-use Rattle.file_write_check.specs.Writing.{written, writeCheck}
+use Rattle.file_written.specs.Written.{written}
+use Rattle.file_write_check.specs.WriteCheck.{writeCheck}
 
 -- every element of a list is below a limit: 256 for a list of bytes
 abbrev pub Below : ℕ → List ℕ → Type 0

@@ -15,8 +15,8 @@ use Rattle.refusal.specs.declared.Verdict.the-variants.{Pass, Refused}
 use Rattle.refusal.specs.Questions.{onPass}
 use Rattle.refusal.proofs.Questions.{IsRefused, passed-not-refused}
 use Rattle.file_layout.specs.Header.{mark}
-use Rattle.file_write_check.specs.Writing.{profilesOf, written}
-use Rattle.file_write_check.proofs.Writing.{part-of, length-bytes}
+use Rattle.file_written.specs.Written.{profilesOf, written}
+use Rattle.file_written.proofs.Written.{part-of, length-bytes}
 
 -- a turn stores value i, and the last turn leaves nothing to store
 pub value-stored : (values buffer : List ℕ) {after : List ℕ} (i at : ℕ) → i < length values →

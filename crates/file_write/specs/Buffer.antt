@@ -3,7 +3,8 @@ use mathlib.Core.List.{List}
 use Prim.Native.Nat.{ℕ}
 use lib.ListN.{length}
 use Rattle.refusal.specs.Questions.{lentAfter}
-use Rattle.file_write_check.specs.Writing.{written, writeCheck}
+use Rattle.file_written.specs.Written.{written}
+use Rattle.file_write_check.specs.WriteCheck.{writeCheck}
 
 -- the lent buffer after the call
 abbrev pub bufferAfter : List ℕ → List ℕ → List ℕ → List ℕ

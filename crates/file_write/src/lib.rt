@@ -1,8 +1,8 @@
 // Writing a profile file (document 01, "The profile file"): codes and values into a lent buffer.
 use file_layout::HEADER_LENGTH;
 use file_layout::MARK;
-use file_write_check::PROFILE_LENGTH;
-use file_write_check::PROFILE_VALUES;
+use file_written::PROFILE_LENGTH;
+use file_written::PROFILE_VALUES;
 use refusal::Verdict;
 ghost use mathlib.Core.Path.{_≡_};
 ghost use mathlib.Core.List.{[], _∷_, _++_};
@@ -11,7 +11,8 @@ ghost use lib.ListN.{length};
 ghost use lib.Seq.{sets};
 ghost use Rattle.big_endian.specs.BigEndian.{bytesOf};
 ghost use Rattle.file_layout.specs.Header.{mark};
-ghost use Rattle.file_write_check.specs.Writing.{profilesOf, writeCheck};
+ghost use Rattle.file_written.specs.Written.{profilesOf};
+ghost use Rattle.file_write_check.specs.WriteCheck.{writeCheck};
 ghost use Rattle.file_write.specs.Buffer.{bufferAfter};
 
 // Mark, version 1 and count.

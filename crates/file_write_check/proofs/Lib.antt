@@ -1,3 +1,2 @@
-pub mod Writing
-pub mod Asked
+pub mod WriteCheck
 pub mod Passed

@@ -11,7 +11,8 @@ use Rattle.refusal.proofs.Questions.{ask-yes, ask-not, ask-passed, then-first, 
 use Rattle.file_layout.specs.Header.{layoutOf}
 use Rattle.file_values.specs.Values.{valuesQuestion}
 use Rattle.file_check.specs.Check.{codesQuestion}
-use Rattle.file_write_check.specs.Writing.{written, amountQuestion, roomQuestion, writeCheck}
+use Rattle.file_written.specs.Written.{written}
+use Rattle.file_write_check.specs.WriteCheck.{amountQuestion, roomQuestion, writeCheck}
 
 -- question 3 passed
 pub record Amounts (codes values : List ℕ) : Type 0 where

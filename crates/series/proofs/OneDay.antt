@@ -24,8 +24,8 @@ use Rattle.carry.specs.declared.Totals.{Totals}
 use Rattle.carry.specs.Energy.{powers}
 use Rattle.carry.specs.Carry.{figures}
 use Rattle.carry.proofs.Carry.{length-figures}
-use Rattle.carry_range.specs.declared.Carried.{Carried}
-use Rattle.carry_range.specs.Inside.{SmallPowers}
+use Rattle.carry_quotients.specs.declared.Carried.{Carried}
+use Rattle.carry_quotients.specs.Inside.{SmallPowers}
 use Rattle.carry_day.specs.Inside.{DayCarried}
 use Rattle.carry_day.proofs.TwoRanges.{stored-figures}
 use Rattle.day_powers.specs.DayTable.{tableIndex, tableAt, dayValues}

@@ -5,7 +5,7 @@ use Prim.Native.Nat.{_+_, _*_}
 use native.Mathlib.Omega.{arith}
 use lib.ListN.{length, drop, length-take, length-drop, length-set}
 use lib.Seq.{sets}
-use Rattle.file_write_check.specs.Writing.{profilesOf}
+use Rattle.file_written.specs.Written.{profilesOf}
 use Rattle.file_write.proofs.Buffer.{profile-stored, profiles-done}
 use Rattle.file_write.proofs.put_profiles.Statement.{statement}
 use Rattle.file_write.proofs.put_profiles.Tie as tie

@@ -7,9 +7,9 @@ use native.Mathlib.Omega.{arith}
 use lib.ListN.{length}
 use borrow.Author.Needs.{needs}
 use Rattle.refusal.specs.declared.Verdict.the-variants.{Pass}
-use Rattle.file_write_check.specs.Writing.{writeCheck}
+use Rattle.file_written.proofs.Written.{length-written}
+use Rattle.file_write_check.specs.WriteCheck.{writeCheck}
 use Rattle.file_write_check.proofs.Passed.{Writable, writable}
-use Rattle.file_write_check.proofs.Writing.{length-written}
 use Rattle.file_write.proofs.Buffer.{file-stored, keeps, fills}
 use Rattle.file_write.proofs.write.Statement.{statement}
 use Rattle.file_write.proofs.write.Tie as tie

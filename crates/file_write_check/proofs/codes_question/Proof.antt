@@ -10,8 +10,8 @@ use Rattle.refusal.specs.Questions.{askEach}
 use Rattle.refusal.proofs.Questions.{each-done, each-next, each-refused}
 use Rattle.file_layout.specs.Header.{layoutOf}
 use Rattle.file_check.specs.Check.{codesQuestion}
-use Rattle.file_write_check.specs.Writing.{written}
-use Rattle.file_write_check.proofs.Asked.{fileCode, codes-each, code-asked}
+use Rattle.file_written.specs.Written.{written}
+use Rattle.file_write_check.proofs.WriteCheck.{fileCode, codes-each, code-asked}
 use Rattle.file_write_check.proofs.codes_question.Statement.{statement}
 use Rattle.file_write_check.proofs.codes_question.Tie as tie
 

@@ -6,9 +6,9 @@ use Prim.Native.Nat.{ℕ}
 use borrow.Author.Needs.{needs}
 use Rattle.refusal.specs.declared.Verdict.the-variants.{Pass}
 use Rattle.refusal.proofs.Questions.{then-pass, stops}
-use Rattle.file_write_check.specs.Writing.{amountQuestion, writeCheck}
+use Rattle.file_write_check.specs.WriteCheck.{amountQuestion, writeCheck}
 use Rattle.file_write_check.proofs.Passed.{Amounts, amounts}
-use Rattle.file_write_check.proofs.Asked.{room-asked}
+use Rattle.file_write_check.proofs.WriteCheck.{room-asked}
 use Rattle.file_write_check.proofs.write_check.Statement.{statement}
 use Rattle.file_write_check.proofs.write_check.Tie as tie
 

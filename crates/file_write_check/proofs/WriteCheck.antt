@@ -1,0 +1,50 @@
+-- Writing's questions 4 and 12, asked of the lent codes, are those of the file to be written. Assumes nothing.
+use mathlib.Core.Path.{_≡_, refl, sym, _∙_}
+use mathlib.Core.Bool.{_&&_, _||_}
+use mathlib.Core.List.{List}
+use Prim.Native.Nat.{ℕ, zero, suc, _+_, _-_, _*_, _<_}
+use native.Mathlib.Omega.{arith}
+use lib.Dec.{leb, ltb, eqb}
+use lib.ListN.{length, getD}
+use Rattle.big_endian.specs.BigEndian.{byteAt, bytesOf}
+use Rattle.refusal.specs.declared.Verdict.{Verdict}
+use Rattle.refusal.specs.declared.Refusal.the-variants.{BadCode, ShortOutput}
+use Rattle.refusal.specs.Questions.{ask, askEach}
+use Rattle.file_layout.specs.Header.{layoutOf}
+use Rattle.file_check.specs.Check.{codeQuestion, codesQuestion}
+use Rattle.file_written.specs.Written.{written}
+use Rattle.file_written.proofs.Written.{length-written, code-at}
+use Rattle.file_write_check.specs.WriteCheck.{roomQuestion}
+
+-- the reader's question 4 of the file to be written, at one offset
+abbrev pub fileCode : List ℕ → List ℕ → ℕ → Verdict
+fileCode codes values at = codeQuestion (layoutOf (written codes values)) (written codes values) at
+
+-- the reader's questions 4 and 5 go over as many profiles as there are codes
+pub codes-each : (codes values : List ℕ) →
+    askEach (fileCode codes values) 1729 (length codes) 6
+    ≡ codesQuestion (layoutOf (written codes values)) (written codes values)
+unfolding layoutOf written bytesOf
+codes-each codes values = refl
+
+-- question 4 of code i, after the code before it
+pub code-asked : (codes values : List ℕ) → length values ≡ length codes * 864 → (i before : ℕ) → i < length codes →
+    (0 < i → before ≡ getD codes (i - 1) 0) → (at : ℕ) → at ≡ 6 + i * 1729 →
+    ask (leb (getD codes i 0) 10 && (eqb at 6 || ltb before (getD codes i 0))) (BadCode at)
+    ≡ codeQuestion (layoutOf (written codes values)) (written codes values) at
+unfolding codeQuestion layoutOf
+code-asked codes values each zero before h b at e = rw (e, code-at codes values each zero h)
+code-asked codes values each (suc i) before h b at e =
+    let own : byteAt (written codes values) at ≡ getD codes (suc i) 0 = rw e (code-at codes values each (suc i) h) in
+    let back : at - 1729 ≡ 6 + i * 1729 = omega arith in
+    let first : suc i - 1 ≡ i = omega arith in
+    let other : byteAt (written codes values) (at - 1729) ≡ before =
+    rw back (code-at codes values each i (omega arith) ∙ sym (rw first at (b (omega arith)))) in
+    rw (own, other)
+
+-- question 12 of the bytes needed
+pub room-asked : (codes values : List ℕ) → length values ≡ length codes * 864 → (room : ℕ) →
+    ask (leb (6 + length codes * 1729) room) (ShortOutput (6 + length codes * 1729))
+    ≡ roomQuestion (written codes values) room
+unfolding roomQuestion
+room-asked codes values each room = rw (length-written codes values each)
