@@ -17,7 +17,7 @@ use Rattle.carry.proofs.Carry.{length-figures}
 use Rattle.series.specs.Inside.{Filled}
 use Rattle.call_request.specs.Request.{Request, quarters, series, useQuestion, carryQuestion, requestCheck, outputQuestion}
 use Rattle.call_request.proofs.Request.{Sound, sound}
-use Rattle.call_expand.specs.declared.Expansion.{Expansion}
+use Rattle.call_expansion.specs.declared.Expansion.{Expansion}
 use Rattle.call_expand.specs.Expanding.{expandCheck, totals, expansion, outputAfter, Expands}
 
 -- questions 7 to 11

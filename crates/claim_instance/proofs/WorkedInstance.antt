@@ -27,7 +27,8 @@ use Rattle.day_powers.specs.DayTable.{dayValues}
 use Rattle.day_powers.specs.DayQuarters.{dayQuarters}
 use Rattle.series.specs.Series.{quartersOfDays}
 use Rattle.call_request.specs.Request.{Request, series, useQuestion, carryQuestion, outputQuestion}
-use Rattle.call_expand.specs.Expanding.{expandCheck, totals, answered, expansion}
+use Rattle.call_expansion.specs.Answered.{answered}
+use Rattle.call_expand.specs.Expanding.{expandCheck, totals, expansion}
 use Rattle.claim_successive.specs.SuccessiveCalls.{ByContract, accepted, Successive, SuccessiveCalls}
 use Rattle.claim_successive.proofs.SuccessiveCalls.{successive-calls}
 use Rattle.claim_instance.specs.WorkedInstance.{times, listingFile, callFor, saturday, between, sunday, whole, calls, common, WorkedInstance}

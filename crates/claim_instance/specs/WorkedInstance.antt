@@ -7,7 +7,7 @@ use Rattle.refusal.specs.declared.Refusal.the-variants.{BadCarry}
 use Rattle.refusal.specs.declared.Verdict.{Verdict}
 use Rattle.file_layout.specs.Header.{mark}
 use Rattle.call_request.specs.Request.{Request, request}
-use Rattle.call_expand.specs.declared.Expansion.the-variants.{Expanded, Refused}
+use Rattle.call_expansion.specs.declared.Expansion.the-variants.{Expanded, Refused}
 use Rattle.call_expand.specs.Expanding.{expansion, outputAfter}
 use Rattle.claim_successive.specs.SuccessiveCalls.{Call, ByContract, accepted, Common, Successive, SameAsWhole}
 

@@ -11,8 +11,9 @@ use Rattle.refusal.specs.Questions.{lentAfter}
 use Rattle.carry.specs.Carry.{lastCarry}
 use Rattle.carry.specs.Energy.{powers}
 use Rattle.call_request.specs.Request.{Request, quarters, series}
-use Rattle.call_expand.specs.declared.Expansion.{Expansion}
-use Rattle.call_expand.specs.Expanding.{expandCheck, totals, answered, expansion, outputAfter}
+use Rattle.call_expansion.specs.declared.Expansion.{Expansion}
+use Rattle.call_expansion.specs.Answered.{answered}
+use Rattle.call_expand.specs.Expanding.{expandCheck, totals, expansion, outputAfter}
 use Rattle.claim_successive.specs.SuccessiveCalls.{Call, ByContract, isAccepted, countOf, totalOf, carryAfter, figuresOf}
 
 -- an accepted call leaves its request's series, and answers what that comes to

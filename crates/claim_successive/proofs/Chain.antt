@@ -11,8 +11,8 @@ use Rattle.carry.specs.Carry.{figures, lastCarry}
 use Rattle.carry.specs.Energy.{Quarter, powers}
 use Rattle.carry.proofs.Carry.{figures-append, carry-append}
 use Rattle.call_request.specs.Request.{Request, quarters, series}
-use Rattle.call_expand.specs.declared.Expansion.{Expansion}
-use Rattle.call_expand.specs.declared.Expansion.the-variants.{Expanded, Refused}
+use Rattle.call_expansion.specs.declared.Expansion.{Expansion}
+use Rattle.call_expansion.specs.declared.Expansion.the-variants.{Expanded, Refused}
 use Rattle.claim_successive.specs.SuccessiveCalls.{Call, ByContract, isAccepted, accepted, countOf, totalOf, carryAfter, figuresOf, joinedFigures, addedCounts, addedTotals, carryAfterAll, Common, commonOf, Successive, joinedQuarters}
 use Rattle.claim_successive.proofs.Answers.{took}
 

@@ -15,7 +15,8 @@ use Rattle.calendar_laws.proofs.Periods.{period-days}
 use Rattle.file_group.specs.Group.{check}
 use Rattle.call_request.specs.Request.{Request, outputQuestion}
 use Rattle.call_request.proofs.Request.{Sound, passes}
-use Rattle.call_expand.specs.Expanding.{expandCheck, totals, answered, expansion}
+use Rattle.call_expansion.specs.Answered.{answered}
+use Rattle.call_expand.specs.Expanding.{expandCheck, totals, expansion}
 use Rattle.call_expand.proofs.Expanding.{request-sound}
 use Rattle.claim_successive.specs.SuccessiveCalls.{Call, ByContract, isAccepted, Common, Piece, OutputAlone}
 use Rattle.claim_successive.proofs.Answers.{took}

@@ -9,8 +9,8 @@ use lib.Dec.{eqb}
 use lib.ListN.{take, drop}
 use borrow.Author.Tests.{ne-eqb}
 use Rattle.lists.specs.Lists.{sum, Each}
-use Rattle.lists.proofs.Members.{each-append, each-take, each-drop}
 use Rattle.lists.proofs.Parts.{map-take, map-drop}
+use Rattle.lists.proofs.Members.{each-append, each-take, each-drop}
 use Rattle.calendar_dates.specs.declared.Date.{Date}
 use Rattle.calendar_dates.specs.Dates.{dateOf, dayOfYear, daysLater}
 use Rattle.calendar_dates.proofs.Dates.{leap-small, day-of-year-range}

@@ -12,9 +12,10 @@ use Rattle.calendar_dates.specs.Dates.{dateOf, nextDay, daysLater}
 use Rattle.carry.specs.Energy.{Quarter, powers, exactSum, Within, householdBound, otherBound}
 use Rattle.carry.specs.Carry.{figures, lastCarry}
 use Rattle.call_request.specs.Request.{Request, daysIn, quarters, series, requestCheck, outputQuestion}
-use Rattle.call_expand.specs.declared.Expansion.{Expansion}
-use Rattle.call_expand.specs.declared.Expansion.the-variants.{Expanded, Refused}
-use Rattle.call_expand.specs.Expanding.{expandCheck, totals, answered, expansion, Expands, reported}
+use Rattle.call_expansion.specs.declared.Expansion.{Expansion}
+use Rattle.call_expansion.specs.declared.Expansion.the-variants.{Expanded, Refused}
+use Rattle.call_expansion.specs.Answered.{answered, reported}
+use Rattle.call_expand.specs.Expanding.{expandCheck, totals, expansion, Expands}
 
 -- The calls.
 

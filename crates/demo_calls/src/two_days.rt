@@ -2,7 +2,7 @@
 // day by itself with the carry handed on, then both in one call: for each call a line with its dates, then count, Wh and carry,
 // or the refusal. The last call's output is too short.
 use crate::lines;
-use call_expand::ExpansionReport;
+use call_expansion::ExpansionReport;
 use libc::STDOUT_FILENO;
 
 pub fn show() {
@@ -17,7 +17,7 @@ pub fn show() {
 
 // Expands a period and writes its line.
 fn expand(file: &[u8], first: u32, last: u32, carry: u32, figures: &mut [u32]) -> ExpansionReport {
-    let answer = call_expand::report(call_expand::expand(
+    let answer = call_expansion::report(call_expand::expand(
         file,
         1,
         first,

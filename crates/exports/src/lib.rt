@@ -1,7 +1,7 @@
 // The calls of document 01 for other languages: numbers and slices in, structs of numbers out. A slice goes as a pointer and a
 // length. Each has the contract of the call that it makes, by the figures of its answer.
 use call_day::DayReport;
-use call_expand::ExpansionReport;
+use call_expansion::ExpansionReport;
 use file_compare::ComparisonReport;
 use file_locate::LocatedPart;
 ghost use mathlib.Core.Path.{_≡_};
@@ -14,7 +14,8 @@ ghost use Rattle.file_write_check.specs.WriteCheck.{writeCheck};
 ghost use Rattle.file_write.specs.Buffer.{bufferAfter};
 ghost use Rattle.call_day.specs.Enquiry.{dayEnquiry, reported as reportedDay};
 ghost use Rattle.call_request.specs.Request.{request};
-ghost use Rattle.call_expand.specs.Expanding.{expansion, outputAfter, reported as reportedExpansion};
+ghost use Rattle.call_expansion.specs.Answered.{reported as reportedExpansion};
+ghost use Rattle.call_expand.specs.Expanding.{expansion, outputAfter};
 ghost use Rattle.exports.specs.Exports.{reportedCheck};
 
 #[repr(C)]
@@ -97,5 +98,14 @@ pub extern "C" fn slp_expand(
     ensures { λ r. ⌜ r ≡ reportedExpansion (expansion (request (now (file .entry)) group first last (now (holidays .entry)) yearly carry (now (out .entry)))) ⌝ }
     ensures { λ r. ⌜ now (out .exit) ≡ outputAfter (request (now (file .entry)) group first last (now (holidays .entry)) yearly carry (now (out .entry))) ⌝ }
 {
-    call_expand::report(call_expand::expand(file, group, first, last, holidays, yearly, carry, out))
+    call_expansion::report(call_expand::expand(
+        file,
+        group,
+        first,
+        last,
+        holidays,
+        yearly,
+        carry,
+        out,
+    ))
 }

@@ -16,9 +16,10 @@ use Rattle.day_powers.specs.DayQuarters.{dayQuarters}
 use Rattle.series.specs.Series.{quartersOfDays}
 use Rattle.call_request.specs.Request.{Request, daysIn, series, requestCheck, outputQuestion}
 use Rattle.call_request.proofs.Request.{series-length}
-use Rattle.call_expand.specs.declared.Expansion.{Expansion}
-use Rattle.call_expand.specs.declared.Expansion.the-variants.{Expanded}
-use Rattle.call_expand.specs.Expanding.{expandCheck, totals, answered, expansion}
+use Rattle.call_expansion.specs.declared.Expansion.{Expansion}
+use Rattle.call_expansion.specs.declared.Expansion.the-variants.{Expanded}
+use Rattle.call_expansion.specs.Answered.{answered}
+use Rattle.call_expand.specs.Expanding.{expandCheck, totals, expansion}
 use Rattle.program_lines.specs.Lines.{rowOf}
 use Rattle.program_listing.specs.Listing.{rows}
 use Rattle.program_listing.proofs.Listing.{length-rows}

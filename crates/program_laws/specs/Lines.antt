@@ -8,8 +8,8 @@ use Rattle.refusal.specs.declared.Refusal.{Refusal}
 use Rattle.refusal.specs.declared.Verdict.the-variants.{Pass, Refused}
 use Rattle.calendar_dates.specs.Dates.{dateOf}
 use Rattle.call_request.specs.Request.{Request, request, daysIn, series, requestCheck}
-use Rattle.call_expand.specs.declared.Expansion.{Expansion}
-use Rattle.call_expand.specs.declared.Expansion.the-variants.{Expanded}
+use Rattle.call_expansion.specs.declared.Expansion.{Expansion}
+use Rattle.call_expansion.specs.declared.Expansion.the-variants.{Expanded}
 use Rattle.call_expand.specs.Expanding.{totals, expansion}
 use Rattle.program_lines.specs.Lines.{rowOf}
 use Rattle.program_request.specs.Accepted.{rowsOf, pageLength}

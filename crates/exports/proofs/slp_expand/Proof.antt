@@ -2,7 +2,7 @@
 -- Assumes nothing.
 use mathlib.Core.Path.{_∙_, ap}
 use borrow.Author.Needs.{needs}
-use Rattle.call_expand.specs.Expanding.{reported}
+use Rattle.call_expansion.specs.Answered.{reported}
 use Rattle.exports.proofs.slp_expand.Statement.{statement}
 use Rattle.exports.proofs.slp_expand.Tie as tie
 

@@ -1,8 +1,8 @@
--- `call_expand::report_refusal` meets its contract: number and place are those of the verdict.
+-- `call_expansion::report_refusal` meets its contract: number and place are those of the verdict.
 -- Assumes nothing.
 use borrow.Author.Needs.{needs}
-use Rattle.call_expand.proofs.report_refusal.Statement.{statement}
-use Rattle.call_expand.proofs.report_refusal.Tie as tie
+use Rattle.call_expansion.proofs.report_refusal.Statement.{statement}
+use Rattle.call_expansion.proofs.report_refusal.Tie as tie
 
 number-of-requires : tie.Need-number-of-requires
 number-of-requires c κs = search needs

@@ -1,8 +1,8 @@
--- `call_expand::report` meets its contract: each case of the answer has its own report.
+-- `call_expansion::report` meets its contract: each case of the answer has its own report.
 -- Assumes nothing.
 use borrow.Author.Needs.{needs}
-use Rattle.call_expand.proofs.report.Statement.{statement}
-use Rattle.call_expand.proofs.report.Tie as tie
+use Rattle.call_expansion.proofs.report.Statement.{statement}
+use Rattle.call_expansion.proofs.report.Tie as tie
 
 enum-known-answer : tie.Need-enum-known-answer
 enum-known-answer c = search needs

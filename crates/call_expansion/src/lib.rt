@@ -1,0 +1,55 @@
+// What expanding answers (document 01, "Series and carry"), and the answer as document 01's figures.
+use carry::Totals;
+use refusal::Verdict;
+ghost use mathlib.Core.Path.{_≡_};
+ghost use Rattle.call_expansion.specs.Answered.{reported};
+
+// What expanding answers: count, total and last carry, or the refusal.
+pub enum Expansion {
+    Expanded(Totals),
+    Refused(Verdict),
+}
+
+// The answer as document 01's figures: number and place, 0 when accepted, and count, total and carry, 0 when refused.
+#[repr(C)]
+pub struct ExpansionReport {
+    pub number: u32,
+    pub place: usize,
+    pub count: usize,
+    pub total: u64,
+    pub carry: u32,
+}
+
+fn report_totals(t: Totals) -> ExpansionReport
+    ensures { λ r. ⌜ r ≡ reported (Expansion.Expanded t) ⌝ }
+{
+    ExpansionReport {
+        number: 0,
+        place: 0,
+        count: t.count,
+        total: t.total,
+        carry: t.carry,
+    }
+}
+
+fn report_refusal(v: Verdict) -> ExpansionReport
+    ensures { λ r. ⌜ r ≡ reported (Expansion.Refused v) ⌝ }
+{
+    ExpansionReport {
+        number: refusal::number_of(v),
+        place: refusal::place_of(v),
+        count: 0,
+        total: 0,
+        carry: 0,
+    }
+}
+
+// The answer as document 01's figures.
+pub fn report(answer: Expansion) -> ExpansionReport
+    ensures { λ r. ⌜ r ≡ reported answer ⌝ }
+{
+    match answer {
+        Expansion::Expanded(t) => report_totals(t),
+        Expansion::Refused(v) => report_refusal(v),
+    }
+}
