@@ -1,11 +1,13 @@
 -- What a day knows of itself, the values of a period's days, and what questions 7 and 8 say of a period. Assumes nothing.
-use mathlib.Core.Path.{_≡_, _∙_, ap}
+use mathlib.Core.Path.{_≡_, refl, _∙_, ap}
 use mathlib.Core.Bool.{true}
 use Prim.Native.Nat.{ℕ, zero, suc, _+_, _-_, _*_, _≤_, _<_}
 use native.Mathlib.Omega.{arith}
 use lib.Dec.{leb}
 use borrow.Author.Tests.{le-leb, leb-true}
+use Rattle.refusal.specs.declared.Refusal.{Refusal}
 use Rattle.refusal.specs.declared.Refusal.the-variants.{BadDate, BadPeriod}
+use Rattle.refusal.specs.declared.Verdict.{Verdict}
 use Rattle.refusal.specs.declared.Verdict.the-variants.{Pass}
 use Rattle.refusal.specs.Questions.{_then_}
 use Rattle.refusal.proofs.Questions.{ask-yes, then-pass, ask-passed, then-first, then-next, both}
@@ -15,8 +17,11 @@ use Rattle.calendar_days.specs.declared.Clock.{Clock}
 use Rattle.calendar_days.specs.declared.Clock.the-variants.{Unchanged, Forward, Back}
 use Rattle.calendar_days.specs.Days.{clock, valuesUnder, valueCount}
 use Rattle.calendar_period.specs.declared.CalendarDay.{CalendarDay}
-use Rattle.calendar_period.specs.Inside.{RealDay}
+use Rattle.calendar_period.specs.declared.Counted.{Counted}
+use Rattle.calendar_period.specs.declared.Dated.{Dated}
+use Rattle.calendar_period.specs.declared.PeriodDays.{PeriodDays}
 use Rattle.calendar_period.specs.Period.{dateQuestion, daysOf, periodQuestion, periodCheck, valuesOfDays}
+use Rattle.calendar_period.specs.Inside.{datedBy, countedBy, RealDay}
 
 -- what a day knows of itself
 module _ {day : CalendarDay} (real : RealDay day) where
@@ -72,3 +77,37 @@ module _ (first last : ℕ) where
   period-passes p =
       then-pass _ (ask-yes (BadDate 0) (p .dates-first)) ∙ then-pass _ (ask-yes (BadDate 1) (p .dates-last))
       ∙ ask-yes BadPeriod (rw (le-leb _ _ (p .ordered), le-leb _ _ (p .short)))
+
+-- What the answers of the two checks tell of the questions asked, and the other way round.
+pub dated-real : (v : Verdict) {d given : Date} → Dated.Real d ≡ datedBy v given → (v ≡ Pass) × (d ≡ given)
+dated-real Pass h = (refl, cc)
+dated-real (Verdict.Refused r) h = let z : _≡_ {A = ℕ} 0 1 = cc in absurd (omega arith)
+
+pub dated-refused : (v : Verdict) (given : Date) {r : Refusal} → Dated.Refused r ≡ datedBy v given → v ≡ Verdict.Refused r
+dated-refused Pass given h = let z : _≡_ {A = ℕ} 0 1 = cc in absurd (omega arith)
+dated-refused (Verdict.Refused r) given h = cc
+
+pub answers-real : {v : Verdict} {d given : Date} → v ≡ Pass → d ≡ given → Dated.Real d ≡ datedBy v given
+answers-real p e = rw (p, e)
+
+pub answers-bad : {v : Verdict} {r : Refusal} (given : Date) → v ≡ Verdict.Refused r → Dated.Refused r ≡ datedBy v given
+answers-bad given h = rw h
+
+-- a date whose question passed
+pub real-date : (number place : ℕ) → dateQuestion number place ≡ Pass → isDate (dateOf number) ≡ true
+unfolding dateQuestion
+real-date number place h = ask-passed _ (BadDate place) h
+
+pub counted-days : (v : Verdict) {days given : PeriodDays} → Counted.Days days ≡ countedBy v given → (v ≡ Pass) × (days ≡ given)
+counted-days Pass h = (refl, cc)
+counted-days (Verdict.Refused r) h = let z : _≡_ {A = ℕ} 0 1 = cc in absurd (omega arith)
+
+pub counted-refused : (v : Verdict) (given : PeriodDays) {r : Refusal} → Counted.Refused r ≡ countedBy v given → v ≡ Verdict.Refused r
+counted-refused Pass given h = let z : _≡_ {A = ℕ} 0 1 = cc in absurd (omega arith)
+counted-refused (Verdict.Refused r) given h = cc
+
+pub answers-days : {v : Verdict} {days given : PeriodDays} → v ≡ Pass → days ≡ given → Counted.Days days ≡ countedBy v given
+answers-days p e = rw (p, e)
+
+pub answers-refused : {v : Verdict} {r : Refusal} (given : PeriodDays) → v ≡ Verdict.Refused r → Counted.Refused r ≡ countedBy v given
+answers-refused given h = rw h

@@ -2,22 +2,28 @@
 // and its days one after the other.
 use calendar_dates::Date;
 use refusal::Refusal;
-use refusal::Verdict;
 ghost use mathlib.Core.Path.{_≡_};
 ghost use mathlib.Core.Bool.{true};
 ghost use Prim.Native.Nat.{_≤_};
-ghost use Rattle.calendar_dates.specs.Dates.{isDate, dayNumber, nextDay, AllDates};
-ghost use Rattle.calendar_period.specs.Period.{dateQuestion, daysOf, periodQuestion, periodCheck, valuesOfDays};
-ghost use Rattle.calendar_period.specs.Inside.{calendarDay};
+ghost use Rattle.calendar_dates.specs.Dates.{dateOf, isDate, nextDay, AllDates};
+ghost use Rattle.calendar_period.specs.Period.{dateQuestion, periodQuestion, periodCheck, valuesOfDays};
+ghost use Rattle.calendar_period.specs.Inside.{datedBy, calendarDay, periodDays, countedBy};
+
+// A date of the span, or the refusal.
+pub enum Dated {
+    Real(Date),
+    Refused(Refusal),
+}
 
 // Question 7, of one date.
-pub fn date_question(date: u32, place: usize) -> Verdict
-    ensures { λ r. ⌜ r ≡ dateQuestion date place ⌝ }
+pub fn date_in(number: u32, place: usize) -> Dated
+    ensures { λ r. ⌜ r ≡ datedBy (dateQuestion number place) (dateOf number) ⌝ }
 {
-    if calendar_dates::is_date(calendar_dates::date_of(date)) {
-        return Verdict::Pass;
+    let d = calendar_dates::date_of(number);
+    if calendar_dates::is_date(d) {
+        return Dated::Real(d);
     }
-    Verdict::Refused(Refusal::BadDate(place))
+    Dated::Refused(Refusal::BadDate(place))
 }
 
 // A date with its weekday and its t, which the next day's follow from.
@@ -62,47 +68,51 @@ pub fn day_after(day: CalendarDay) -> CalendarDay
     }
 }
 
+// A period's first day and the number of its days.
+pub struct PeriodDays {
+    pub first: CalendarDay,
+    pub days: u32,
+}
+
+// The days of a period, or the refusal.
+pub enum Counted {
+    Days(PeriodDays),
+    Refused(Refusal),
+}
+
 // Question 8, of two dates.
-fn period_question(first: Date, last: Date) -> Verdict
+fn days_between(first: Date, last: Date) -> Counted
     requires { ⌜ (isDate first ≡ true) × (isDate last ≡ true) ⌝ }
-    ensures { λ r. ⌜ r ≡ periodQuestion first last ⌝ }
+    ensures { λ r. ⌜ r ≡ countedBy (periodQuestion first last) (periodDays first last) ⌝ }
 {
     let from = calendar_dates::day_number(first);
     let to = calendar_dates::day_number(last);
     if to < from {
-        return Verdict::Refused(Refusal::BadPeriod);
+        return Counted::Refused(Refusal::BadPeriod);
     }
-    if 1_461 < to + 1 - from {
-        return Verdict::Refused(Refusal::BadPeriod);
+    let days = to + 1 - from;
+    if 1_461 < days {
+        return Counted::Refused(Refusal::BadPeriod);
     }
-    Verdict::Pass
+    Counted::Days(PeriodDays {
+        first: calendar_day(first),
+        days,
+    })
 }
 
 // Questions 7 and 8.
-pub fn check_period(first: u32, last: u32) -> Verdict
-    ensures { λ r. ⌜ r ≡ periodCheck first last ⌝ }
+pub fn count_days(first: u32, last: u32) -> Counted
+    ensures { λ r. ⌜ r ≡ countedBy (periodCheck first last) (periodDays (dateOf first) (dateOf last)) ⌝ }
 {
-    let v = date_question(first, 0);
-    let Verdict::Pass = v else {
-        return v;
+    let from = match date_in(first, 0) {
+        Dated::Real(d) => d,
+        Dated::Refused(refusal) => return Counted::Refused(refusal),
     };
-    let v = date_question(last, 1);
-    let Verdict::Pass = v else {
-        return v;
+    let to = match date_in(last, 1) {
+        Dated::Real(d) => d,
+        Dated::Refused(refusal) => return Counted::Refused(refusal),
     };
-    period_question(
-        calendar_dates::date_of(first),
-        calendar_dates::date_of(last),
-    )
-}
-
-// The number of days.
-pub fn days_of(first: Date, last: Date) -> u32
-    requires { ⌜ (isDate first ≡ true) × (isDate last ≡ true) ⌝ }
-    requires { ⌜ dayNumber first ≤ dayNumber last ⌝ }
-    ensures { λ r. ⌜ r ≡ daysOf first last ⌝ }
-{
-    calendar_dates::day_number(last) + 1 - calendar_dates::day_number(first)
+    days_between(from, to)
 }
 
 // The number of values of some days from a day on.

@@ -2,8 +2,9 @@
 -- 2 Saturday, 3 Sunday) and value count."
 use mathlib.Core.List.{List}
 use Prim.Native.Nat.{ℕ}
+use Rattle.refusal.specs.declared.Refusal.{Refusal}
 use Rattle.refusal.specs.declared.Verdict.{Verdict}
-use Rattle.refusal.specs.Questions.{number, place, _then_}
+use Rattle.refusal.specs.Questions.{refusalNumber, refusalPlace, _then_}
 use Rattle.calendar_dates.specs.declared.Date.{Date}
 use Rattle.calendar_dates.specs.Dates.{dateOf, dayOfYear, weekdayOf}
 use Rattle.calendar_holidays.specs.Holidays.{holidaysQuestion}
@@ -33,7 +34,7 @@ dayCheck date holidays = dateQuestion date 0 then holidaysQuestion holidays
 -- the description where both pass, else the refusal
 abbrev pub answered : Verdict → Day → DayAnswer
 answered Verdict.Pass day = DayAnswer.Described day
-answered (Verdict.Refused r) day = DayAnswer.Refused (Verdict.Refused r)
+answered (Verdict.Refused r) day = DayAnswer.Refused r
 
 unfoldable pub dayEnquiry : ℕ → List ℕ → DayAnswer
 dayEnquiry date holidays = answered (dayCheck date holidays) (describe (dateOf date) holidays)
@@ -63,10 +64,10 @@ reportedDay day =
     }
 
 -- "A refusal gives number, place and zeros elsewhere"
-abbrev pub reportedRefusal : Verdict → DayReport
-reportedRefusal v =
-    record { number = number v; place = place v; weekday = 0; t = 0; season = 0; «day_type» = 0; values = 0 }
+abbrev pub reportedRefusal : Refusal → DayReport
+reportedRefusal r =
+    record { number = refusalNumber r; place = refusalPlace r; weekday = 0; t = 0; season = 0; «day_type» = 0; values = 0 }
 
 abbrev pub reported : DayAnswer → DayReport
 reported (DayAnswer.Described day) = reportedDay day
-reported (DayAnswer.Refused v) = reportedRefusal v
+reported (DayAnswer.Refused r) = reportedRefusal r

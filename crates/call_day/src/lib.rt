@@ -2,6 +2,8 @@
 use calendar_dates::Date;
 use calendar_days::DayType;
 use calendar_days::Season;
+use calendar_period::Dated;
+use refusal::Refusal;
 use refusal::Verdict;
 ghost use mathlib.Core.Path.{_≡_};
 ghost use mathlib.Core.Bool.{true};
@@ -18,7 +20,7 @@ pub struct Day {
 
 pub enum DayAnswer {
     Described(Day),
-    Refused(Verdict),
+    Refused(Refusal),
 }
 
 // The answer as document 01's figures: number and place, 0 when accepted, and the day's figures, 0 when refused.
@@ -51,16 +53,16 @@ fn describe(d: Date, holidays: &[u32]) -> Day
 // Describes the day of a date, or refuses by the first failing question.
 pub fn enquire(date: u32, holidays: &[u32]) -> DayAnswer
     ensures { λ r. ⌜ r ≡ dayEnquiry date (now (holidays .entry)) ⌝ }
+    ensures { λ r. ⌜ reported r ≡ reported (dayEnquiry date (now (holidays .entry))) ⌝ }
 {
-    let v = calendar_period::date_question(date, 0);
-    let Verdict::Pass = v else {
-        return DayAnswer::Refused(v);
+    let d = match calendar_period::date_in(date, 0) {
+        Dated::Real(d) => d,
+        Dated::Refused(refusal) => return DayAnswer::Refused(refusal),
     };
-    let v = calendar_holidays::holidays_question(holidays);
-    let Verdict::Pass = v else {
-        return DayAnswer::Refused(v);
-    };
-    DayAnswer::Described(describe(calendar_dates::date_of(date), holidays))
+    if let Verdict::Refused(refusal) = calendar_holidays::holidays_question(holidays) {
+        return DayAnswer::Refused(refusal);
+    }
+    DayAnswer::Described(describe(d, holidays))
 }
 
 // 1 winter, 2 summer, 3 transition: the order of the tables in the profile file.
@@ -101,12 +103,12 @@ fn report_day(day: Day) -> DayReport
     }
 }
 
-fn report_refusal(v: Verdict) -> DayReport
-    ensures { λ r. ⌜ r ≡ reportedRefusal v ⌝ }
+fn report_refusal(refusal: Refusal) -> DayReport
+    ensures { λ r. ⌜ r ≡ reportedRefusal refusal ⌝ }
 {
     DayReport {
-        number: refusal::number_of(v),
-        place: refusal::place_of(v),
+        number: refusal::number_of(refusal),
+        place: refusal::place_of(refusal),
         weekday: 0,
         t: 0,
         season: 0,
@@ -121,6 +123,6 @@ pub fn report(answer: DayAnswer) -> DayReport
 {
     match answer {
         DayAnswer::Described(day) => report_day(day),
-        DayAnswer::Refused(v) => report_refusal(v),
+        DayAnswer::Refused(refusal) => report_refusal(refusal),
     }
 }

@@ -1,37 +1,35 @@
 -- What comparing answers, by where the questions stop. Assumes nothing.
-use mathlib.Core.Path.{_≡_, refl, sym, _∙_}
+use mathlib.Core.Path.{_≡_, _∙_, ap}
 use mathlib.Core.Bool.{Bool, cond}
 use mathlib.Core.List.{List}
 use Prim.Native.Nat.{ℕ}
 use Rattle.big_endian.specs.Inside.{wordsOf}
-use Rattle.refusal.specs.declared.Refusal.the-variants.{NoGroup}
-use Rattle.refusal.specs.declared.Verdict.{Verdict}
+use Rattle.refusal.specs.declared.Refusal.{Refusal}
 use Rattle.refusal.specs.declared.Verdict.the-variants.{Pass, Refused}
-use Rattle.refusal.proofs.Questions.{IsRefused, passed-not-refused, then-pass, stops}
+use Rattle.refusal.proofs.Questions.{then-pass, then-first, then-next, refused-second}
 use Rattle.file_check.specs.Check.{fileCheck}
-use Rattle.file_group.specs.declared.Found.the-variants.{At, Nothing}
-use Rattle.file_group.specs.Group.{groupIn}
-use Rattle.file_group.proofs.Group.{group-found, group-missing, PartOf, part-words}
+use Rattle.file_group.specs.Group.{groupOffset, groupQuestion, check, tableOf}
 use Rattle.file_compare.specs.declared.Comparison.{Comparison}
 use Rattle.file_compare.specs.declared.Comparison.the-variants.{Alike, Different}
-use Rattle.file_compare.specs.Comparing.{compareCheck, same, comparison}
+use Rattle.file_compare.specs.Comparing.{compareCheck, same, comparison, reportedComparison}
 
--- comparing
+-- an answer is also given in figures
+pub in-figures : {answer is : Comparison} → answer ≡ is → (answer ≡ is) × (reportedComparison answer ≡ reportedComparison is)
+in-figures h = (h, ap reportedComparison h)
+
 module _ (file : List ℕ) (first second : ℕ) where
-  pub not-compared : (v : Verdict) → v ≡ compareCheck file first second → IsRefused v → Comparison.Refused v ≡ comparison file first second
+  -- the questions of the first group alone decide, then those of the second
+  pub first-refused : {r : Refusal} → check file first ≡ Refused r → compareCheck file first second ≡ Refused r
+  first-refused h = refused-second (fileCheck file) (groupQuestion file first 0) _ h
+
+  pub first-passed : check file first ≡ Pass → compareCheck file first second ≡ groupQuestion file second 1
+  first-passed h = then-pass _ (then-first (fileCheck file) _ h) ∙ then-pass _ (then-next (fileCheck file) _ h)
+
+  pub not-compared : {r : Refusal} → compareCheck file first second ≡ Refused r → Comparison.Refused r ≡ comparison file first second
   unfolding comparison
-  not-compared Pass e t = passed-not-refused t
-  not-compared (Refused r) e t = rw (← e)
+  not-compared e = rw e
 
-  module _ (passed : fileCheck file ≡ Pass) where
-    pub first-missing : groupIn file first ≡ Nothing → Refused (NoGroup 0) ≡ compareCheck file first second
-    first-missing h = stops _ (sym (group-missing file first 0 h)) refl ∙ sym (then-pass _ passed)
-
-    pub second-missing : {a : ℕ} → groupIn file first ≡ At a → groupIn file second ≡ Nothing → Refused (NoGroup 1) ≡ compareCheck file first second
-    second-missing f h = sym (then-pass _ passed ∙ then-pass _ (group-found file first 0 f) ∙ group-missing file second 1 h)
-
-    pub compared : (a b : List ℕ) → PartOf file first a → PartOf file second b → (alike : Bool) → alike ≡ same (wordsOf a) (wordsOf b) → cond alike Alike Different ≡ comparison file first second
-    unfolding comparison
-    compared a b f s alike e =
-        let check : compareCheck file first second ≡ Pass = then-pass _ passed ∙ then-pass _ (group-found file first 0 (f .at)) ∙ group-found file second 1 (s .at) in
-        rw (check, e, part-words file first a f, part-words file second b s)
+  pub compared : compareCheck file first second ≡ Pass → (a b : List ℕ) → wordsOf a ≡ tableOf file first → wordsOf b ≡ tableOf file second →
+      (alike : Bool) → alike ≡ same (wordsOf a) (wordsOf b) → cond alike Alike Different ≡ comparison file first second
+  unfolding comparison
+  compared p a b f s alike e = rw (p, e, f, s)

@@ -5,7 +5,7 @@ use Prim.Native.Nat.{ℕ}
 use lib.Dec.{eqb}
 use Rattle.refusal.specs.declared.Verdict.{Verdict}
 use Rattle.refusal.specs.declared.Verdict.the-variants.{Pass, Refused}
-use Rattle.refusal.specs.Questions.{number, place, _then_}
+use Rattle.refusal.specs.Questions.{refusalNumber, refusalPlace, _then_}
 use Rattle.file_check.specs.Check.{fileCheck}
 use Rattle.file_group.specs.Group.{groupQuestion, tableOf}
 use Rattle.file_compare.specs.declared.Comparison.{Comparison}
@@ -29,10 +29,10 @@ comparison file first second =
   where
     compared : Verdict → Bool → Comparison
     compared Pass alike = cond alike Alike Different
-    compared (Refused r) alike = Comparison.Refused (Refused r)
+    compared (Refused r) alike = Comparison.Refused r
 
 -- the figures for each case of the answer; 1 for alike is our choice
 abbrev pub reportedComparison : Comparison → ComparisonReport
 reportedComparison Alike = record { number = 0; place = 0; alike = 1 }
 reportedComparison Different = record { number = 0; place = 0; alike = 0 }
-reportedComparison (Comparison.Refused v) = record { number = number v; place = place v; alike = 0 }
+reportedComparison (Comparison.Refused r) = record { number = refusalNumber r; place = refusalPlace r; alike = 0 }

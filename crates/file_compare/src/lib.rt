@@ -1,7 +1,6 @@
 // Comparing two groups of a file: questions 1 to 6, and whether all their values agree.
 use file_group::Found;
 use refusal::Refusal;
-use refusal::Verdict;
 ghost use mathlib.Core.Path.{_≡_};
 ghost use lib.ListN.{length};
 ghost use Rattle.big_endian.specs.Inside.{wordsOf};
@@ -11,7 +10,7 @@ ghost use Rattle.file_compare.specs.Comparing.{same, comparison, reporte
 pub enum Comparison {
     Alike,
     Different,
-    Refused(Verdict),
+    Refused(Refusal),
 }
 
 // The answer in figures: number and place are 0 when the groups were compared.
@@ -42,16 +41,15 @@ fn same_values(a: &[u8], b: &[u8]) -> bool
 // Alike exactly when all values of the two groups agree.
 pub fn compare(file: &[u8], first: u8, second: u8) -> Comparison
     ensures { λ r. ⌜ r ≡ comparison (now (file .entry)) first second ⌝ }
+    ensures { λ r. ⌜ reportedComparison r ≡ reportedComparison (comparison (now (file .entry)) first second) ⌝ }
 {
-    let v = file_check::check_file(file);
-    let Verdict::Pass = v else {
-        return Comparison::Refused(v);
+    let a = match file_group::find_checked(file, first) {
+        Found::At(at) => at,
+        Found::Refused(refusal) => return Comparison::Refused(refusal),
     };
-    let Found::At(a) = file_group::find(file, first) else {
-        return Comparison::Refused(Verdict::Refused(Refusal::NoGroup(0)));
-    };
-    let Found::At(b) = file_group::find(file, second) else {
-        return Comparison::Refused(Verdict::Refused(Refusal::NoGroup(1)));
+    let b = match file_group::find(file, second, 1) {
+        Found::At(at) => at,
+        Found::Refused(refusal) => return Comparison::Refused(refusal),
     };
     if same_values(
         file_group::values_of(file, a),
@@ -63,12 +61,12 @@ pub fn compare(file: &[u8], first: u8, second: u8) -> Comparison
     }
 }
 
-fn report_refusal(v: Verdict) -> ComparisonReport
-    ensures { λ r. ⌜ r ≡ reportedComparison (Comparison.Refused v) ⌝ }
+fn report_refusal(refusal: Refusal) -> ComparisonReport
+    ensures { λ r. ⌜ r ≡ reportedComparison (Comparison.Refused refusal) ⌝ }
 {
     ComparisonReport {
-        number: refusal::number_of(v),
-        place: refusal::place_of(v),
+        number: refusal::number_of(refusal),
+        place: refusal::place_of(refusal),
         alike: 0,
     }
 }
@@ -88,6 +86,6 @@ pub fn report(answer: Comparison) -> ComparisonReport
             place: 0,
             alike: 0,
         },
-        Comparison::Refused(v) => report_refusal(v),
+        Comparison::Refused(refusal) => report_refusal(refusal),
     }
 }

@@ -7,11 +7,13 @@ use native.Mathlib.Omega.{arith}
 use native.Mathlib.Nat.{suc-mul, mul-le-mul-right, zero-add}
 use lib.Dec.{eqb}
 use lib.ListN.{length, take, drop, getD, length-take, length-drop}
-use borrow.Author.Tests.{eqb-true, eq-eqb, ne-eqb}
+use borrow.Author.Tests.{eqb-true, eq-eqb, ne-eqb, ltb-true, lt-ltb, le-ltb}
 use Rattle.big_endian.specs.BigEndian.{byteAt, wordAt}
 use Rattle.big_endian.specs.Inside.{wordsOf}
 use Rattle.big_endian.proofs.Words.{length-words, getD-words, words-located}
+use Rattle.refusal.specs.declared.Refusal.{Refusal}
 use Rattle.refusal.specs.declared.Refusal.the-variants.{NoGroup}
+use Rattle.refusal.specs.declared.Verdict.{Verdict}
 use Rattle.refusal.specs.declared.Verdict.the-variants.{Pass, Refused}
 use Rattle.refusal.proofs.Questions.{ask-yes, ask-no, then-pass, ask-passed, then-first, then-next}
 use Rattle.file_layout.specs.declared.Layout.{Layout}
@@ -19,26 +21,28 @@ use Rattle.file_layout.specs.Header.{headerLength, layoutOf, profileLength}
 use Rattle.file_layout.specs.Inside.{LaidOut}
 use Rattle.file_check.specs.Check.{fileCheck}
 use Rattle.file_check.proofs.Check.{Accepted, accepted, value-bound}
-use Rattle.file_group.specs.declared.Found.the-variants.{At, Nothing}
 use Rattle.file_group.specs.declared.Found.{Found}
-use Rattle.file_group.specs.Group.{findAmong, groupIn, isFound, groupQuestion, check, tableOf}
+use Rattle.file_group.specs.declared.Found.the-variants.{At}
+use Rattle.file_group.specs.Group.{offsetAmong, groupOffset, groupQuestion, check, valuesOffset, tableOf}
+use Rattle.file_group.specs.Inside.{foundBy, verdictOf, valueBytes}
 
 -- one turn of the search, by whether the code at `at` is the group's, and its end
 module _ (layout : Layout) (file : List ℕ) (group : ℕ) where
-  pub find-here : (n at : ℕ) → 0 < n → byteAt file at ≡ group → findAmong layout file group n at ≡ At at
-  unfolding findAmong
+  pub find-here : (n at : ℕ) → 0 < n → byteAt file at ≡ group → offsetAmong layout file group n at ≡ at
+  unfolding offsetAmong
   find-here zero at h e = absurd (omega arith)
   find-here (suc n) at h e = rw (eq-eqb _ _ e)
 
-  pub find-later : (n at : ℕ) → 0 < n → (byteAt file at ≡ group → ⊥) → findAmong layout file group n at ≡ findAmong layout file group (n - 1) (at + profileLength layout)
-  unfolding findAmong
+  pub find-later : (n at : ℕ) → 0 < n → (byteAt file at ≡ group → ⊥) →
+      offsetAmong layout file group n at ≡ offsetAmong layout file group (n - 1) (at + profileLength layout)
+  unfolding offsetAmong
   find-later zero at h e = absurd (omega arith)
   find-later (suc n) at h e =
       let m : suc n - 1 ≡ n = omega arith in
       rw (ne-eqb _ _ e, m)
 
-  pub find-end : (n at : ℕ) → n ≤ 0 → findAmong layout file group n at ≡ Nothing
-  unfolding findAmong
+  pub find-end : (n at : ℕ) → n ≤ 0 → offsetAmong layout file group n at ≡ at
+  unfolding offsetAmong
   find-end zero at h = refl
   find-end (suc n) at h = absurd (omega arith)
 
@@ -49,98 +53,115 @@ pub record Stands (layout : Layout) (file : List ℕ) (group n at found : ℕ) :
   pub place : found ≡ at + k * profileLength layout
   pub code : byteAt file found ≡ group
 
-pub stands : (layout : Layout) (file : List ℕ) (group n at found : ℕ) → findAmong layout file group n at ≡ At found → Stands layout file group n at found
-unfolding findAmong
-stands layout file group zero at found h = let z : _≡_ {A = ℕ} 0 1 = cc in absurd (omega arith)
-stands layout file group (suc n) at found h =
-    turn (λ g. stands layout file group n (at + profileLength layout) found g) (eqb (byteAt file at) group) refl h
+pub stands : (layout : Layout) (file : List ℕ) (group n at : ℕ) → offsetAmong layout file group n at < at + n * profileLength layout →
+    Stands layout file group n at (offsetAmong layout file group n at)
+unfolding offsetAmong
+stands layout file group zero at h = absurd (omega arith)
+stands layout file group (suc n) at h =
+    turn (λ g. stands layout file group n (at + profileLength layout) g) (eqb (byteAt file at) group) refl h
   where
-    turn : (findAmong layout file group n (at + profileLength layout) ≡ At found → Stands layout file group n (at + profileLength layout) found) → (b : Bool) → eqb (byteAt file at) group ≡ b → cond b (At at) (findAmong layout file group n (at + profileLength layout)) ≡ At found → Stands layout file group (suc n) at found
-    turn next true e g =
-        let p : at ≡ found = cc in
-        record { k = 0; below = omega arith; place = omega arith; code = ap (byteAt file) (sym p) ∙ eqb-true _ _ e }
-    turn next false e g =
-        let s = next g in
+    next : ℕ
+    next = offsetAmong layout file group n (at + profileLength layout)
+
+    turn : (next < at + profileLength layout + n * profileLength layout → Stands layout file group n (at + profileLength layout) next) →
+        (b : Bool) → eqb (byteAt file at) group ≡ b → cond b at next < at + suc n * profileLength layout →
+        Stands layout file group (suc n) at (cond b at next)
+    turn later true e l = record { k = 0; below = omega arith; place = omega arith; code = eqb-true _ _ e }
+    turn later false e l =
+        let s = later (omega (arith, suc-mul n (profileLength layout))) in
         record { k = suc (s .k); below = omega arith; place = omega (arith, suc-mul (s .k) (profileLength layout)); code = s .code }
 
--- the bytes of a found profile are in the file
-pub found-inside : (file : List ℕ) (group found : ℕ) → LaidOut (layoutOf file) file → groupIn file group ≡ At found → found + profileLength (layoutOf file) ≤ length file
-found-inside file group found laid h =
-    let layout = layoutOf file in
-    let s = stands layout file group (layout .count) headerLength found h in
-    let whole = laid .whole in
-    omega (arith, s .place, suc-mul (s .k) (profileLength layout), mul-le-mul-right {m = suc (s .k)} {n = layout .count} (profileLength layout) (s .below))
-
--- question 6, by where the group stands, and the check of a file that passed questions 1 to 5
-module _ (file : List ℕ) (group : ℕ) where
-  pub group-found : {found : ℕ} (place : ℕ) → groupIn file group ≡ At found → groupQuestion file group place ≡ Pass
+-- question 6, by where the group's code stands
+module _ (file : List ℕ) (group place : ℕ) where
+  pub group-there : groupOffset file group < length file → groupQuestion file group place ≡ Pass
   unfolding groupQuestion
-  group-found place h = ask-yes (NoGroup place) (rw h)
+  group-there h = ask-yes (NoGroup place) (lt-ltb _ _ h)
 
-  pub group-missing : (place : ℕ) → groupIn file group ≡ Nothing → groupQuestion file group place ≡ Refused (NoGroup place)
+  pub group-missing : length file ≤ groupOffset file group → groupQuestion file group place ≡ Refused (NoGroup place)
   unfolding groupQuestion
-  group-missing place h = ask-no (NoGroup place) (rw h)
+  group-missing h = ask-no (NoGroup place) (le-ltb _ _ h)
 
-  pub check-found : {found : ℕ} → fileCheck file ≡ Pass → groupIn file group ≡ At found → check file group ≡ Pass
-  check-found p h = then-pass _ p ∙ group-found 0 h
+  pub group-stands : groupQuestion file group place ≡ Pass → groupOffset file group < length file
+  unfolding groupQuestion
+  group-stands h = ltb-true _ _ (ask-passed _ (NoGroup place) h)
 
-  pub check-missing : fileCheck file ≡ Pass → groupIn file group ≡ Nothing → check file group ≡ Refused (NoGroup 0)
-  check-missing p h = then-pass _ p ∙ group-missing 0 h
+-- what an answer tells of the questions asked
+pub found-at : (v : Verdict) {at offset : ℕ} → At at ≡ foundBy v offset → (v ≡ Pass) × (at ≡ offset)
+found-at Pass h = (refl, cc)
+found-at (Verdict.Refused r) h = let z : _≡_ {A = ℕ} 0 1 = cc in absurd (omega arith)
 
--- The other way round: what a check that passed tells.
+pub found-refused : (v : Verdict) (offset : ℕ) {r : Refusal} → Found.Refused r ≡ foundBy v offset → v ≡ Verdict.Refused r
+found-refused Pass offset h = let z : _≡_ {A = ℕ} 0 1 = cc in absurd (omega arith)
+found-refused (Verdict.Refused r) offset h = cc
+
+-- and the other way round
+pub answers-at : {v : Verdict} {at offset : ℕ} → v ≡ Pass → at ≡ offset → At at ≡ foundBy v offset
+answers-at p e = rw (p, e)
+
+pub answers-refused : {v : Verdict} {r : Refusal} (offset : ℕ) → v ≡ Verdict.Refused r → Found.Refused r ≡ foundBy v offset
+answers-refused offset h = rw h
+
+pub verdict-of-found : (v : Verdict) (offset : ℕ) → verdictOf (foundBy v offset) ≡ v
+verdict-of-found Pass offset = refl
+verdict-of-found (Verdict.Refused r) offset = refl
+
+-- a group of an accepted file: its profile lies in the file
 pub record Checked (file : List ℕ) (group : ℕ) : Type 0 where
-  pub found : ℕ
   pub passed : fileCheck file ≡ Pass
-  pub at : groupIn file group ≡ At found
+  pub stands : Stands (layoutOf file) file group (layoutOf file .count) headerLength (groupOffset file group)
+  pub inside : groupOffset file group + profileLength (layoutOf file) ≤ length file
 
-pub checked : (file : List ℕ) (group : ℕ) → check file group ≡ Pass → Checked file group
-unfolding groupQuestion
-checked file group h = here (groupIn file group) refl (ask-passed _ (NoGroup 0) (then-next (fileCheck file) _ h))
-  where
-    here : (f : Found) → groupIn file group ≡ f → isFound f ≡ true → Checked file group
-    here (At found) e t = record { found = found; passed = then-first (fileCheck file) _ h; at = e }
-    here Nothing e t = let z : _≡_ {A = ℕ} 0 1 = cc in absurd (omega arith)
+module _ (file : List ℕ) (group place : ℕ) where
+  pub checked : fileCheck file ≡ Pass → groupQuestion file group place ≡ Pass → Checked file group
+  checked p q =
+      let layout = layoutOf file in
+      let whole = accepted file p .headed .laid .whole in
+      let s = stands layout file group (layout .count) headerLength (omega (arith, group-stands file group place q)) in
+      let last = mul-le-mul-right {m = suc (s .k)} {n = layout .count} (profileLength layout) (s .below) in
+      record { passed = p; stands = s; inside = omega (arith, s .place, suc-mul (s .k) (profileLength layout)) }
+
+pub check-passed : (file : List ℕ) (group : ℕ) → check file group ≡ Pass → Checked file group
+check-passed file group h =
+    checked file group 0 (then-first (fileCheck file) _ h) (then-next (fileCheck file) _ h)
 
 pub table-length : (file : List ℕ) (group : ℕ) → length (tableOf file group) ≡ layoutOf file .values
 table-length file group = length-words file _ _
 
 -- "A value P is .. 0 to 20,000"
-pub table-bound : (file : List ℕ) (group found i d : ℕ) → Accepted file → groupIn file group ≡ At found → i < layoutOf file .values → getD (tableOf file group) i d ≤ 20_000
-table-bound file group found i d a h l =
+pub table-bound : (file : List ℕ) (group i d : ℕ) → Checked file group → i < layoutOf file .values → getD (tableOf file group) i d ≤ 20_000
+table-bound file group i d c l =
     let layout = layoutOf file in
-    let s = stands layout file group (layout .count) headerLength found h in
-    rw (h, getD-words file (layout .values) (found + layout .before) i d l, s .place) (value-bound file a (s .k) i (s .below) l)
+    let s = c .stands in
+    rw (getD-words file (layout .values) (groupOffset file group + layout .before) i d l, s .place)
+    (value-bound file (accepted file (c .passed)) (s .k) i (s .below) l)
 
--- a part of the file that has the group's value bytes
-pub record PartOf (file : List ℕ) (group : ℕ) (part : List ℕ) : Type 0 where
-  pub found : ℕ
-  pub at : groupIn file group ≡ At found
-  pub inside : found + profileLength (layoutOf file) ≤ length file
-  pub bytes : part ≡ take (layoutOf file .values * 2) (drop (found + layoutOf file .before) file)
+-- "it passed, so it was found": a group whose code stands at `at`, and what its callers need of it
+pub record FoundAt (file : List ℕ) (group at : ℕ) : Type 0 where
+  pub checked : Checked file group
+  pub place : at ≡ groupOffset file group
 
-module _ (file : List ℕ) (group found : ℕ) (passed : fileCheck file ≡ Pass) (at : groupIn file group ≡ At found) where
-  pub part-of : {part : List ℕ} → part ≡ take (layoutOf file .values * 2) (drop (found + layoutOf file .before) file) → PartOf file group part
-  part-of e =
-      record {
-        found = found;
-        at = at;
-        inside = found-inside file group found (accepted file passed .headed .laid) at;
-        bytes = e;
-      }
+module _ (file : List ℕ) (group : ℕ) {at : ℕ} where
+  pub found-checked : At at ≡ foundBy (check file group) (groupOffset file group) → FoundAt file group at
+  found-checked h =
+      let told = found-at _ h in
+      record { checked = check-passed file group (told .0); place = told .1 }
 
-module _ (file : List ℕ) (group : ℕ) (part : List ℕ) (p : PartOf file group part) where
-  pub part-length : length part ≡ layoutOf file .values * 2
-  part-length =
-      let inside = p .inside in
-      ap length (p .bytes) ∙ (simp (length-take, length-drop) (omega arith))
+  pub found-besides : (place : ℕ) → fileCheck file ≡ Pass → At at ≡ foundBy (groupQuestion file group place) (groupOffset file group) → FoundAt file group at
+  found-besides place p h =
+      let told = found-at _ h in
+      record { checked = checked file group place p (told .0); place = told .1 }
 
-  pub part-count : length part / 2 ≡ layoutOf file .values
-  part-count = omega (arith, part-length)
+module _ (file : List ℕ) (group : ℕ) {at : ℕ} (f : FoundAt file group at) where
+  pub values-inside : LaidOut (layoutOf file) file × (at + profileLength (layoutOf file) ≤ length file)
+  values-inside = (accepted file (f .checked .passed) .headed .laid, rw (f .place) (f .checked .inside))
 
-  pub part-words : wordsOf part ≡ tableOf file group
-  part-words =
-      rw (part-count, p .bytes, p .at) (words-located file (p .found + layoutOf file .before) (layoutOf file .values))
+  -- a part of the file that has the group's value bytes
+  module _ {part : List ℕ} (bytes : part ≡ valueBytes file at) where
+    pub part-length : length part ≡ layoutOf file .values * 2
+    part-length = ap length bytes ∙ (simp (length-take, length-drop) (omega (arith, values-inside .1)))
 
-  pub part-word : (i d : ℕ) → i < layoutOf file .values → wordAt part (i * 2) ≡ getD (tableOf file group) i d
-  part-word i d l =
-      rw (← part-words, part-count) (sym (getD-words part (layoutOf file .values) 0 i d l ∙ (rw zero-add)))
+    pub part-count : length part / 2 ≡ layoutOf file .values
+    part-count = omega (arith, part-length)
+
+    pub part-words : wordsOf part ≡ tableOf file group
+    part-words = rw (part-count, bytes, f .place) (words-located file (valuesOffset file group) (layoutOf file .values))

@@ -4,21 +4,22 @@ use refusal::Verdict;
 ghost use mathlib.Core.Path.{_≡_};
 ghost use Prim.Native.Nat.{_+_, _≤_};
 ghost use lib.ListN.{length};
+ghost use Rattle.refusal.specs.Questions.{reported};
 ghost use Rattle.file_layout.specs.Header.{layoutOf, profileLength};
 ghost use Rattle.file_layout.specs.Inside.{LaidOut};
-ghost use Rattle.file_group.specs.Group.{groupIn, check};
-ghost use Rattle.file_group.specs.Inside.{ValuesOf};
+ghost use Rattle.file_group.specs.Group.{groupOffset, groupQuestion, check};
+ghost use Rattle.file_group.specs.Inside.{foundBy, verdictOf, ValuesOf};
 
-// Where a group's code stands in a file.
+// Where a group's code stands in a file, or the refusal.
 pub enum Found {
     At(usize),
-    Nothing,
+    Refused(Refusal),
 }
 
-// Where the group's code stands, in a file of the length that its header says.
-pub fn find(file: &[u8], group: u8) -> Found
+// Question 6: where the group's code stands, in a file of the length that its header says. A refusal names `place`.
+pub fn find(file: &[u8], group: u8, place: usize) -> Found
     requires { ⌜ LaidOut (layoutOf (now file)) (now file) ⌝ }
-    ensures { λ r. ⌜ r ≡ groupIn (now (file .entry)) group ⌝ }
+    ensures { λ r. ⌜ r ≡ foundBy (groupQuestion (now (file .entry)) group place) (groupOffset (now (file .entry)) group) ⌝ }
 {
     let layout = file_layout::layout_of(file);
     let step = file_layout::profile_length(layout);
@@ -31,21 +32,35 @@ pub fn find(file: &[u8], group: u8) -> Found
         at += step;
         left -= 1;
     }
-    Found::Nothing
+    Found::Refused(Refusal::NoGroup(place))
+}
+
+// Questions 1 to 6: where the group's code stands, in any file.
+pub fn find_checked(file: &[u8], group: u8) -> Found
+    ensures { λ r. ⌜ r ≡ foundBy (check (now (file .entry)) group) (groupOffset (now (file .entry)) group) ⌝ }
+{
+    if let Verdict::Refused(refusal) = file_check::check_file(file) {
+        return Found::Refused(refusal);
+    }
+    find(file, group, 0)
+}
+
+// The verdict alone.
+pub fn verdict_of(found: Found) -> Verdict
+    ensures { λ r. ⌜ r ≡ verdictOf found ⌝ }
+{
+    match found {
+        Found::At(_) => Verdict::Pass,
+        Found::Refused(refusal) => Verdict::Refused(refusal),
+    }
 }
 
 // The check beside locating: questions 1 to 6.
 pub fn check(file: &[u8], group: u8) -> Verdict
     ensures { λ r. ⌜ r ≡ check (now (file .entry)) group ⌝ }
+    ensures { λ r. ⌜ reported r ≡ reported (check (now (file .entry)) group) ⌝ }
 {
-    let v = file_check::check_file(file);
-    let Verdict::Pass = v else {
-        return v;
-    };
-    let Found::At(_) = find(file, group) else {
-        return Verdict::Refused(Refusal::NoGroup(0));
-    };
-    Verdict::Pass
+    verdict_of(find_checked(file, group))
 }
 
 // The value bytes of the profile whose code stands at `at`.

@@ -4,51 +4,46 @@ use mathlib.Core.Path.{_≡_, sym, _∙_, ap}
 use mathlib.Core.List.{List, []}
 use Prim.Native.Nat.{ℕ, _+_, _*_}
 use native.Mathlib.Nat.{add-comm}
-use lib.ListN.{length, take, drop}
+use lib.ListN.{length}
 use denote.Ref.{RefT, now}
-use Rattle.refusal.specs.declared.Verdict.{Verdict}
-use Rattle.refusal.specs.declared.Verdict.the-variants.{Pass}
-use Rattle.refusal.proofs.Questions.{IsRefused, on-refused}
+use Rattle.refusal.specs.declared.Refusal.{Refusal}
+use Rattle.refusal.specs.declared.Verdict.the-variants.{Pass, Refused}
 use Rattle.file_layout.specs.Header.{layoutOf}
-use Rattle.file_check.specs.Check.{fileCheck}
-use Rattle.file_group.specs.declared.Found.the-variants.{At}
-use Rattle.file_group.specs.Group.{groupIn, check}
-use Rattle.file_group.specs.Inside.{ValuesOf}
-use Rattle.file_group.proofs.Group.{check-found, PartOf, part-of, part-length}
+use Rattle.file_group.specs.Group.{check, valuesOffset}
+use Rattle.file_group.specs.Inside.{valueBytes, ValuesOf}
+use Rattle.file_group.proofs.Group.{FoundAt, part-length}
 use Rattle.file_locate.specs.declared.LocatedPart.{LocatedPart}
 use Rattle.file_locate.specs.Locating.{locatedAt, located, Located, locatedPart}
 
 module _ (file : List ℕ) (group : ℕ) where
-  pub locatedAt-refused : {v : Verdict} → v ≡ check file group → IsRefused v → locatedAt file group ≡ 0
-  locatedAt-refused {v} e t = rw (← e) (on-refused v _ 0 t)
+  pub locatedAt-refused : {r : Refusal} → check file group ≡ Refused r → locatedAt file group ≡ 0
+  locatedAt-refused e = rw e
 
-  pub located-refused : {v : Verdict} → v ≡ check file group → IsRefused v → located file group ≡ []
-  located-refused {v} e t = rw (← e) (on-refused v _ [] t)
+  pub located-refused : {r : Refusal} → check file group ≡ Refused r → located file group ≡ []
+  located-refused e = rw e
 
-  pub locatedAt-found : {found : ℕ} → fileCheck file ≡ Pass → groupIn file group ≡ At found → locatedAt file group ≡ found + layoutOf file .before
-  locatedAt-found p h = rw (check-found file group p h, h)
+  module _ {at : ℕ} (passed : check file group ≡ Pass) (found : FoundAt file group at) where
+    pub locatedAt-found : locatedAt file group ≡ at + layoutOf file .before
+    locatedAt-found = rw (passed, found .place)
 
-  pub located-found : {found : ℕ} → fileCheck file ≡ Pass → groupIn file group ≡ At found → located file group ≡ take (layoutOf file .values * 2) (drop (found + layoutOf file .before) file)
-  located-found p h = rw (check-found file group p h, h)
+    pub located-found : located file group ≡ valueBytes file at
+    located-found = rw (passed, found .place)
 
 module _ (file part : RefT (List ℕ)) (group : ℕ) where
-  pub refused-part : {v : Verdict} → v ≡ check (now file) group → IsRefused v → now part ≡ [] → part .ptr ≡ (file .ptr .0, 0 + file .ptr .1) → Located file group part
-  refused-part e t b s =
+  pub refused-part : {r : Refusal} → check (now file) group ≡ Refused r → now part ≡ [] → part .ptr ≡ (file .ptr .0, 0 + file .ptr .1) → Located file group part
+  refused-part e b s =
+      let at = locatedAt-refused (now file) group e in
       record {
-        bytes = b ∙ sym (located-refused (now file) group e t);
-        start = s ∙ ap (λ (offset : ℕ). (file .ptr .0, offset)) (add-comm 0 (file .ptr .1) ∙ ap (λ (n : ℕ). file .ptr .1 + n) (sym (locatedAt-refused (now file) group e t)));
+        bytes = b ∙ sym (located-refused (now file) group e);
+        start = s ∙ ap (λ (offset : ℕ). (file .ptr .0, offset)) (add-comm 0 (file .ptr .1) ∙ ap (λ (n : ℕ). file .ptr .1 + n) (sym at));
       }
 
-  pub found-part : {found : ℕ} → fileCheck (now file) ≡ Pass → groupIn (now file) group ≡ At found → ValuesOf file found part → Located file group part
-  found-part p h r =
+  pub found-part : {at : ℕ} → check (now file) group ≡ Pass → FoundAt (now file) group at → ValuesOf file at part → Located file group part
+  found-part p found r =
       record {
-        bytes = r .bytes ∙ sym (located-found (now file) group p h);
-        start = r .start ∙ ap (λ (n : ℕ). (file .ptr .0, file .ptr .1 + n)) (sym (locatedAt-found (now file) group p h));
+        bytes = r .bytes ∙ sym (located-found (now file) group p found);
+        start = r .start ∙ ap (λ (n : ℕ). (file .ptr .0, file .ptr .1 + n)) (sym (locatedAt-found (now file) group p found));
       }
-
-module _ (file : List ℕ) (group found : ℕ) (passed : fileCheck file ≡ Pass) (at : groupIn file group ≡ At found) where
-  pub located-part : PartOf file group (located file group)
-  located-part = part-of file group found passed at (located-found file group passed at)
 
 abbrev placed : ℕ → ℕ → LocatedPart
 placed offset length = record { offset = offset; length = length }
@@ -57,11 +52,11 @@ same-place : {offset length offset′ length′ : ℕ} → offset ≡ offset′ 
 same-place h k = rw (h, k)
 
 module _ (file : List ℕ) (group : ℕ) where
-  pub refused-place : {v : Verdict} → v ≡ check file group → IsRefused v → placed 0 0 ≡ locatedPart file group
-  refused-place e t =
-      same-place (sym (locatedAt-refused file group e t)) (sym (ap length (located-refused file group e t)))
+  pub refused-place : {r : Refusal} → check file group ≡ Refused r → placed 0 0 ≡ locatedPart file group
+  refused-place e = same-place (sym (locatedAt-refused file group e)) (sym (ap length (located-refused file group e)))
 
-  pub found-place : {found before values : ℕ} → fileCheck file ≡ Pass → groupIn file group ≡ At found → before ≡ layoutOf file .before → values ≡ layoutOf file .values → placed (found + before) (values * 2) ≡ locatedPart file group
-  found-place {found} p h b v =
-      same-place (ap (λ (n : ℕ). found + n) b ∙ sym (locatedAt-found file group p h))
-      (ap (λ (n : ℕ). n * 2) v ∙ sym (part-length file group (located file group) (located-part file group found p h)))
+  pub found-place : {at before values : ℕ} → check file group ≡ Pass → FoundAt file group at →
+      before ≡ layoutOf file .before → values ≡ layoutOf file .values → placed (at + before) (values * 2) ≡ locatedPart file group
+  found-place {at} p found b v =
+      same-place (ap (λ (n : ℕ). at + n) b ∙ sym (locatedAt-found file group p found))
+      (ap (λ (n : ℕ). n * 2) v ∙ sym (part-length file group found (located-found file group p found)))

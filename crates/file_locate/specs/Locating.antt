@@ -6,13 +6,13 @@ use lib.ListN.{length, take, drop}
 use denote.Ref.{RefT, now}
 use Rattle.refusal.specs.Questions.{onPass}
 use Rattle.file_layout.specs.Header.{layoutOf}
-use Rattle.file_group.specs.Group.{groupIn, check, valuesAt}
+use Rattle.file_group.specs.Group.{check, valuesOffset}
 use Rattle.file_locate.specs.declared.LocatedPart.{LocatedPart}
 
 -- Locating: "the group's own 1,728 value bytes as that part of the lent file; a refusal returns the part of length zero at its
 -- start": where the part begins, and its bytes
 abbrev pub locatedAt : List ℕ → ℕ → ℕ
-locatedAt file group = onPass (check file group) (valuesAt (layoutOf file) (groupIn file group)) 0
+locatedAt file group = onPass (check file group) (valuesOffset file group) 0
 
 abbrev pub located : List ℕ → ℕ → List ℕ
 located file group = onPass (check file group) (take (layoutOf file .values * 2) (drop (locatedAt file group) file)) []

@@ -1,6 +1,5 @@
 // Locating a group: its own value bytes as a part of the lent file, or their offset and length.
 use file_group::Found;
-use refusal::Verdict;
 ghost use mathlib.Core.Path.{_≡_};
 ghost use Rattle.file_locate.specs.Locating.{Located, locatedPart};
 
@@ -16,10 +15,7 @@ pub fn locate(file: &[u8], group: u8) -> &[u8]
     ensures { λ r. ⌜ Located (file .entry) group r ⌝ }
 {
     let nothing = &file[0..0];
-    let Verdict::Pass = file_check::check_file(file) else {
-        return nothing;
-    };
-    let Found::At(at) = file_group::find(file, group) else {
+    let Found::At(at) = file_group::find_checked(file, group) else {
         return nothing;
     };
     file_group::values_of(file, at)
@@ -33,10 +29,7 @@ pub fn located_part(file: &[u8], group: u8) -> LocatedPart
         offset: 0,
         length: 0,
     };
-    let Verdict::Pass = file_check::check_file(file) else {
-        return nothing;
-    };
-    let Found::At(at) = file_group::find(file, group) else {
+    let Found::At(at) = file_group::find_checked(file, group) else {
         return nothing;
     };
     let layout = file_layout::layout_of(file);

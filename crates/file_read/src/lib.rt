@@ -1,12 +1,12 @@
 // Reading a group into a lent table: questions 1 to 6 and 12.
 use file_group::Found;
-use refusal::Refusal;
 use refusal::Verdict;
 ghost use mathlib.Core.Path.{_≡_};
 ghost use mathlib.Core.List.{_++_};
 ghost use Prim.Native.Nat.{_+_, _/_, _≤_};
 ghost use lib.ListN.{length, drop};
 ghost use Rattle.big_endian.specs.Inside.{wordsOf};
+ghost use Rattle.refusal.specs.Questions.{reported};
 ghost use Rattle.file_layout.specs.Header.{layoutOf, profileLength};
 ghost use Rattle.file_layout.specs.Inside.{LaidOut};
 ghost use Rattle.file_group.specs.Inside.{valueBytes};
@@ -42,19 +42,17 @@ pub fn values_at(file: &[u8], at: usize) -> [u16; 864]
 // Fills the first entries of `table` with the group's values and keeps those beyond; a refusal changes nothing.
 pub fn read(file: &[u8], group: u8, table: &mut [u16]) -> Verdict
     ensures { λ r. ⌜ r ≡ readCheck (now (file .entry)) group (length (now (table .entry))) ⌝ }
+    ensures { λ r. ⌜ reported r ≡ reported (readCheck (now (file .entry)) group (length (now (table .entry)))) ⌝ }
     ensures { λ r. ⌜ now (table .exit) ≡ tableAfter (now (file .entry)) group (now (table .entry)) ⌝ }
 {
-    let v = file_check::check_file(file);
+    let found = file_group::find_checked(file, group);
+    let Found::At(at) = found else {
+        return file_group::verdict_of(found);
+    };
+    let v = refusal::room_question(file_layout::layout_of(file).values, table.len());
     let Verdict::Pass = v else {
         return v;
     };
-    let Found::At(at) = file_group::find(file, group) else {
-        return Verdict::Refused(Refusal::NoGroup(0));
-    };
-    let needed = file_layout::layout_of(file).values;
-    if table.len() < needed {
-        return Verdict::Refused(Refusal::ShortOutput(needed));
-    }
     fill(file_group::values_of(file, at), table);
-    Verdict::Pass
+    v
 }

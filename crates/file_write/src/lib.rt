@@ -10,6 +10,7 @@ ghost use Prim.Native.Nat.{_+_, _*_, _≤_, _<_};
 ghost use lib.ListN.{length};
 ghost use lib.Seq.{sets};
 ghost use Rattle.big_endian.specs.BigEndian.{bytesOf};
+ghost use Rattle.refusal.specs.Questions.{reported};
 ghost use Rattle.file_layout.specs.Header.{mark};
 ghost use Rattle.file_written.specs.Written.{profilesOf};
 ghost use Rattle.file_write_check.specs.WriteCheck.{writeCheck};
@@ -67,6 +68,7 @@ fn put_profiles(codes: &[u8], values: &[u16], buffer: &mut [u8])
 // Fills the first bytes of `buffer` with the file and keeps those beyond; a refusal changes nothing.
 pub fn write(codes: &[u8], values: &[u16], buffer: &mut [u8]) -> Verdict
     ensures { λ r. ⌜ r ≡ writeCheck (now (codes .entry)) (now (values .entry)) (length (now (buffer .entry))) ⌝ }
+    ensures { λ r. ⌜ reported r ≡ reported (writeCheck (now (codes .entry)) (now (values .entry)) (length (now (buffer .entry)))) ⌝ }
     ensures { λ r. ⌜ now (buffer .exit) ≡ bufferAfter (now (codes .entry)) (now (values .entry)) (now (buffer .entry)) ⌝ }
 {
     let v = file_write_check::write_check(codes, values, buffer.len());

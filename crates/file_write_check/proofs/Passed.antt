@@ -5,14 +5,14 @@ use mathlib.Core.List.{List}
 use Prim.Native.Nat.{ℕ, _*_, _≤_}
 use lib.ListN.{length}
 use borrow.Author.Tests.{leb-true, eqb-true, le-leb, eq-eqb}
-use Rattle.refusal.specs.declared.Refusal.the-variants.{WrongLength, ShortOutput}
+use Rattle.refusal.specs.declared.Refusal.the-variants.{WrongLength}
 use Rattle.refusal.specs.declared.Verdict.the-variants.{Pass, Refused}
-use Rattle.refusal.proofs.Questions.{ask-yes, ask-not, ask-passed, then-first, then-next, both}
+use Rattle.refusal.proofs.Questions.{ask-yes, ask-not, ask-passed, then-first, then-next, room-passed, both}
 use Rattle.file_layout.specs.Header.{layoutOf}
 use Rattle.file_values.specs.Values.{valuesQuestion}
 use Rattle.file_check.specs.Check.{codesQuestion}
 use Rattle.file_written.specs.Written.{written}
-use Rattle.file_write_check.specs.WriteCheck.{amountQuestion, roomQuestion, writeCheck}
+use Rattle.file_write_check.specs.WriteCheck.{amountQuestion, writeCheck}
 
 -- question 3 passed
 pub record Amounts (codes values : List ℕ) : Type 0 where
@@ -44,7 +44,7 @@ pub record Writable (codes values : List ℕ) (room : ℕ) : Type 0 where
   pub fits : length (written codes values) ≤ room
 
 pub writable : (codes values : List ℕ) (room : ℕ) → writeCheck codes values room ≡ Pass → Writable codes values room
-unfolding writeCheck roomQuestion
+unfolding writeCheck
 writable codes values room h =
     let after3 = then-next (amountQuestion codes values) _ h in
     let after4 = then-next (codesQuestion (layoutOf (written codes values)) (written codes values)) _ after3 in
@@ -53,5 +53,5 @@ writable codes values room h =
       amount = amounts codes values (then-first _ _ h);
       codesPass = then-first _ _ after3;
       valuesPass = then-first _ _ after4;
-      fits = leb-true _ _ (ask-passed _ (ShortOutput _) after5);
+      fits = room-passed _ _ after5;
     }

@@ -1,4 +1,4 @@
--- Writing's questions 4 and 12, asked of the lent codes, are those of the file to be written. Assumes nothing.
+-- Writing's question 4, asked of the lent codes, is that of the file to be written. Assumes nothing.
 use mathlib.Core.Path.{_≡_, refl, sym, _∙_}
 use mathlib.Core.Bool.{_&&_, _||_}
 use mathlib.Core.List.{List}
@@ -8,13 +8,12 @@ use lib.Dec.{leb, ltb, eqb}
 use lib.ListN.{length, getD}
 use Rattle.big_endian.specs.BigEndian.{byteAt, bytesOf}
 use Rattle.refusal.specs.declared.Verdict.{Verdict}
-use Rattle.refusal.specs.declared.Refusal.the-variants.{BadCode, ShortOutput}
+use Rattle.refusal.specs.declared.Refusal.the-variants.{BadCode}
 use Rattle.refusal.specs.Questions.{ask, askEach}
 use Rattle.file_layout.specs.Header.{layoutOf}
 use Rattle.file_check.specs.Check.{codeQuestion, codesQuestion}
 use Rattle.file_written.specs.Written.{written}
-use Rattle.file_written.proofs.Written.{length-written, code-at}
-use Rattle.file_write_check.specs.WriteCheck.{roomQuestion}
+use Rattle.file_written.proofs.Written.{code-at}
 
 -- the reader's question 4 of the file to be written, at one offset
 abbrev pub fileCode : List ℕ → List ℕ → ℕ → Verdict
@@ -41,10 +40,3 @@ code-asked codes values each (suc i) before h b at e =
     let other : byteAt (written codes values) (at - 1729) ≡ before =
     rw back (code-at codes values each i (omega arith) ∙ sym (rw first at (b (omega arith)))) in
     rw (own, other)
-
--- question 12 of the bytes needed
-pub room-asked : (codes values : List ℕ) → length values ≡ length codes * 864 → (room : ℕ) →
-    ask (leb (6 + length codes * 1729) room) (ShortOutput (6 + length codes * 1729))
-    ≡ roomQuestion (written codes values) room
-unfolding roomQuestion
-room-asked codes values each room = rw (length-written codes values each)

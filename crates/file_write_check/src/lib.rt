@@ -11,7 +11,7 @@ ghost use mathlib.Core.List.{List};
 ghost use Prim.Native.Nat.{ℕ, _+_, _*_, _≤_};
 ghost use lib.Dec.{leb, ltb, eqb};
 ghost use lib.ListN.{length};
-ghost use Rattle.refusal.specs.declared.Refusal.the-variants.{BadCode, ShortOutput};
+ghost use Rattle.refusal.specs.declared.Refusal.the-variants.{BadCode};
 ghost use Rattle.refusal.specs.Questions.{ask};
 ghost use Rattle.file_layout.specs.Header.{headerLength, layoutOf};
 ghost use Rattle.file_check.specs.Check.{codesQuestion};
@@ -74,16 +74,12 @@ fn codes_question(codes: &[u8]) -> Verdict
     Verdict::Pass
 }
 
-// Question 12, of a file of `count` profiles.
-fn room_question(count: usize, room: usize) -> Verdict
+// The bytes of a file of `count` profiles.
+fn bytes_needed(count: usize) -> usize
     requires { ⌜ count ≤ 11 ⌝ }
-    ensures { λ r. ⌜ r ≡ ask (leb (6 + count * 1729) room) (ShortOutput (6 + count * 1729)) ⌝ }
+    ensures { λ r. ⌜ r ≡ 6 + count * 1729 ⌝ }
 {
-    let needed = HEADER_LENGTH + count * PROFILE_LENGTH;
-    if needed <= room {
-        return Verdict::Pass;
-    }
-    Verdict::Refused(Refusal::ShortOutput(needed))
+    HEADER_LENGTH + count * PROFILE_LENGTH
 }
 
 // All of writing's questions.
@@ -102,5 +98,5 @@ pub fn write_check(codes: &[u8], values: &[u16], room: usize) -> Verdict
     let Verdict::Pass = v else {
         return v;
     };
-    room_question(codes.len(), room)
+    refusal::room_question(bytes_needed(codes.len()), room)
 }

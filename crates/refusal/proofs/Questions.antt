@@ -6,10 +6,12 @@ use Prim.Native.Nat.{ℕ, zero, suc, _+_, _-_, _*_, _≤_, _<_}
 use native.Mathlib.Omega.{arith}
 use native.Mathlib.Nat.{suc-mul}
 use denote.Enum.Declared.{tagOf, declared}
+use borrow.Author.Tests.{leb-true, le-leb, lt-leb}
 use Rattle.refusal.specs.declared.Verdict.{Verdict}
 use Rattle.refusal.specs.declared.Verdict.the-variants.{Pass, Refused}
 use Rattle.refusal.specs.declared.Refusal.{Refusal}
-use Rattle.refusal.specs.Questions.{ask, _then_, askEach, onPass}
+use Rattle.refusal.specs.declared.Refusal.the-variants.{ShortOutput}
+use Rattle.refusal.specs.Questions.{reported, ask, _then_, askEach, roomQuestion, onPass}
 use Rattle.refusal.proofs.Verdict.{enum}
 
 -- what the `else` of `let Verdict::Pass = v else { .. }` knows of v, and what follows it knows
@@ -26,6 +28,14 @@ passed-not-refused h = let z : _≡_ {A = ℕ} 0 1 = h in absurd (omega arith)
 pub passed : (v : Verdict) → IsPass v → v ≡ Pass
 passed Pass h = refl
 passed (Refused r) h = let z : _≡_ {A = ℕ} 1 0 = h in absurd (omega arith)
+
+-- a verdict answered is also answered in figures
+pub in-figures : {answer verdict : Verdict} → answer ≡ verdict → (answer ≡ verdict) × (reported answer ≡ reported verdict)
+in-figures h = (h, ap reported h)
+
+-- a refusal is one
+pub is-refused : {v : Verdict} {r : Refusal} → v ≡ Refused r → IsRefused v
+is-refused h = rw h
 
 -- One question.
 pub ask-yes : {b : Bool} (r : Refusal) → b ≡ true → ask b r ≡ Pass
@@ -58,6 +68,27 @@ stops {v} next e t = rw (← e) (sym (then-refused v next t))
 -- a check goes on to the next question after one that passed
 pub goes-on : {v question answer next : Verdict} → v ≡ question → IsPass v → answer ≡ next → answer ≡ (question then next)
 goes-on {v} e t h = h ∙ sym (then-pass _ (sym e ∙ passed v t))
+
+-- the refusal r of a question is the whole check's
+pub refused-first : {question : Verdict} {r : Refusal} (next : Verdict) → question ≡ Refused r → (question then next) ≡ Refused r
+unfolding _then_
+refused-first next h = rw h
+
+-- so is the refusal r of the first two
+pub refused-second : (a b next : Verdict) {r : Refusal} → (a then b) ≡ Refused r → (a then b then next) ≡ Refused r
+unfolding _then_
+refused-second Pass b next h = refused-first next h
+refused-second (Refused r) b next h = h
+
+-- Question 12.
+module _ (needed room : ℕ) where
+  pub room-enough : needed ≤ room → roomQuestion needed room ≡ Pass
+  unfolding roomQuestion
+  room-enough h = ask-yes (ShortOutput needed) (le-leb needed room h)
+
+  pub room-short : room < needed → roomQuestion needed room ≡ Refused (ShortOutput needed)
+  unfolding roomQuestion
+  room-short h = ask-no (ShortOutput needed) (lt-leb needed room h)
 
 -- What is answered, or left in memory, on a refusal.
 pub on-refused : {A : Type 0} (v : Verdict) (a b : A) → IsRefused v → onPass v a b ≡ b
@@ -111,6 +142,10 @@ then-first (Refused r) next h = h
 
 pub then-next : (v next : Verdict) → (v then next) ≡ Pass → next ≡ Pass
 then-next v next h = sym (then-pass next (then-first v next h)) ∙ h
+
+pub room-passed : (needed room : ℕ) → roomQuestion needed room ≡ Pass → needed ≤ room
+unfolding roomQuestion
+room-passed needed room h = leb-true needed room (ask-passed _ (ShortOutput needed) h)
 
 -- the question passed at each of the n places
 pub each-passed : (question : ℕ → Verdict) (step n at k : ℕ) → askEach question step n at ≡ Pass → k < n → question (at + k * step) ≡ Pass

@@ -3,9 +3,11 @@
 use mathlib.Core.Bool.{Bool, true, false}
 use mathlib.Core.List.{List, _++_}
 use Prim.Native.Nat.{ℕ, zero, suc, _+_}
+use lib.Dec.{leb}
 use lib.ListN.{length, drop}
 use Rattle.refusal.specs.declared.Refusal.{Refusal}
 use Rattle.refusal.specs.declared.Refusal.the-variants.{NoMark, WrongVersion, WrongLength, BadCode, BadValue, NoGroup, BadDate, BadPeriod, BadHoliday, BadUse, BadCarry, ShortOutput, BadInput}
+use Rattle.refusal.specs.declared.CheckReport.{CheckReport}
 use Rattle.refusal.specs.declared.Verdict.{Verdict}
 use Rattle.refusal.specs.declared.Verdict.the-variants.{Pass, Refused}
 
@@ -51,6 +53,10 @@ abbrev pub place : Verdict → ℕ
 place Pass = 0
 place (Refused r) = refusalPlace r
 
+-- the two figures together
+abbrev pub reported : Verdict → CheckReport
+reported v = record { number = number v; place = place v }
+
 -- one question: where the answer is "no" the call is refused by r
 unfoldable pub ask : Bool → Refusal → Verdict
 ask true r = Pass
@@ -65,6 +71,10 @@ Refused r then next = Refused r
 unfoldable pub askEach : (ℕ → Verdict) → ℕ → ℕ → ℕ → Verdict
 askEach question step zero at = Pass
 askEach question step (suc n) at = question at then askEach question step n (at + step)
+
+-- 12. "Is the lent output long enough?": "place = entries needed (for writing, bytes)"
+unfoldable pub roomQuestion : ℕ → ℕ → Verdict
+roomQuestion needed room = ask (leb needed room) (ShortOutput needed)
 
 -- a where every question passed, else b
 abbrev pub onPass : {A : Type 0} → Verdict → A → A → A

@@ -1,6 +1,6 @@
 // What a check answers (document 01, "The questions, first "no" counts"), and document 01's number and place for it.
 ghost use mathlib.Core.Path.{_≡_};
-ghost use Rattle.refusal.specs.Questions.{refusalNumber, refusalPlace, number, place};
+ghost use Rattle.refusal.specs.Questions.{refusalNumber, refusalPlace, reported, roomQuestion};
 
 // The question that did not pass, with its place where document 01 names one.
 pub enum Refusal {
@@ -25,7 +25,15 @@ pub enum Verdict {
     Refused(Refusal),
 }
 
-fn refusal_number(r: Refusal) -> u32
+// A verdict in document 01's figures.
+#[repr(C)]
+pub struct CheckReport {
+    pub number: u32,
+    pub place: usize,
+}
+
+// The number of the question that did not pass.
+pub fn number_of(r: Refusal) -> u32
     ensures { λ n. ⌜ n ≡ refusalNumber r ⌝ }
 {
     match r {
@@ -45,7 +53,8 @@ fn refusal_number(r: Refusal) -> u32
     }
 }
 
-fn refusal_place(r: Refusal) -> usize
+// Its place, 0 where none is named.
+pub fn place_of(r: Refusal) -> usize
     ensures { λ n. ⌜ n ≡ refusalPlace r ⌝ }
 {
     match r {
@@ -65,22 +74,34 @@ fn refusal_place(r: Refusal) -> usize
     }
 }
 
-// The number of the question that did not pass, 0 when all pass.
-pub fn number_of(v: Verdict) -> u32
-    ensures { λ n. ⌜ n ≡ number v ⌝ }
+// The verdict in document 01's figures: number and place, both 0 when all pass.
+pub fn report(v: Verdict) -> CheckReport
+    ensures { λ r. ⌜ r ≡ reported v ⌝ }
 {
     match v {
-        Verdict::Pass => 0,
-        Verdict::Refused(r) => refusal_number(r),
+        Verdict::Pass => CheckReport {
+            number: 0,
+            place: 0,
+        },
+        Verdict::Refused(r) => report_refusal(r),
     }
 }
 
-// The refusal's place, 0 where none is named and when all pass.
-pub fn place_of(v: Verdict) -> usize
-    ensures { λ n. ⌜ n ≡ place v ⌝ }
+fn report_refusal(r: Refusal) -> CheckReport
+    ensures { λ report. ⌜ report ≡ reported (Verdict.Refused r) ⌝ }
 {
-    match v {
-        Verdict::Pass => 0,
-        Verdict::Refused(r) => refusal_place(r),
+    CheckReport {
+        number: number_of(r),
+        place: place_of(r),
     }
+}
+
+// Question 12, of lent memory with `room` entries for the `needed` ones.
+pub fn room_question(needed: usize, room: usize) -> Verdict
+    ensures { λ r. ⌜ r ≡ roomQuestion needed room ⌝ }
+{
+    if room < needed {
+        return Verdict::Refused(Refusal::ShortOutput(needed));
+    }
+    Verdict::Pass
 }

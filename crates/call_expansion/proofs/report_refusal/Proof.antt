@@ -1,4 +1,4 @@
--- `call_expansion::report_refusal` meets its contract: number and place are those of the verdict.
+-- `call_expansion::report_refusal` meets its contract: number and place are the refusal's own.
 -- Assumes nothing.
 use borrow.Author.Needs.{needs}
 use Rattle.call_expansion.proofs.report_refusal.Statement.{statement}

@@ -1,147 +1,114 @@
 -- `file_compare::compare` meets its contract: each refusal is answered as it is, and else the two found parts hold the groups' tables.
 -- Assumes nothing.
-use mathlib.Core.Path.{_≡_, refl, sym, _∙_}
-use mathlib.Core.Bool.{true, false}
+use mathlib.Core.Path.{_≡_, sym, _∙_}
+use mathlib.Core.Bool.{Bool, true, false, cond}
 use borrow.Author.Needs.{needs}
+use Rattle.big_endian.specs.Inside.{wordsOf}
 use Rattle.refusal.specs.declared.Verdict.the-variants.{Pass}
-use Rattle.refusal.proofs.Questions.{stops}
-use Rattle.file_layout.specs.Header.{layoutOf}
-use Rattle.file_layout.specs.Inside.{LaidOut}
-use Rattle.file_check.specs.Check.{fileCheck}
-use Rattle.file_check.proofs.Check.{accepted}
-use Rattle.file_group.specs.declared.Found.the-variants.{At}
-use Rattle.file_group.specs.Group.{groupIn}
-use Rattle.file_group.proofs.Group.{found-inside, PartOf, part-of, part-length}
-use Rattle.file_compare.proofs.Comparing.{not-compared, first-missing, second-missing, compared}
+use Rattle.file_group.specs.Group.{check}
+use Rattle.file_group.proofs.Group.{found-at, found-refused, FoundAt, found-checked, found-besides, values-inside, part-length, part-words}
+use Rattle.file_compare.specs.declared.Comparison.the-variants.{Alike, Different}
+use Rattle.file_compare.specs.Comparing.{compareCheck, same, comparison}
+use Rattle.file_compare.proofs.Comparing.{in-figures, first-refused, first-passed, not-compared, compared}
 use Rattle.file_compare.proofs.compare.Statement.{statement}
 use Rattle.file_compare.proofs.compare.Tie as tie
 
--- the file passed; the first group was found, and the second one
-abbrev start : tie.After-enum-told → tie.Start
-start c = c .before .before .before .before
+-- the first group was found
+abbrev start : tie.After-known-told → tie.Start
+start c = c .before .before .before .before .before
 
-passed : (c : tie.After-enum-told) → fileCheck (start c .args .file .now) ≡ Pass
-passed c = sym (c .before .before .check-file .ensures) ∙ c .enum-told .given .1
+first-passes : (c : tie.After-known-told) → check (start c .args .file .now) (start c .args .first) ≡ Pass
+first-passes c = found-at _ (sym (c .before .at .given .1) ∙ c .before .before .before .find-checked .ensures) .0
 
-laid-out : (c : tie.After-enum-told) → LaidOut (layoutOf (start c .args .file .now)) (start c .args .file .now)
-laid-out c = accepted _ (passed c) .headed .laid
+first : (c : tie.After-known-told) → FoundAt (start c .args .file .now) (start c .args .first) (c .before .at .given .0 .0)
+first c = found-checked _ _ (sym (c .before .at .given .1) ∙ c .before .before .before .find-checked .ensures)
 
-abbrev of-a : tie.After-a → tie.After-enum-told
-of-a c = c .before .before .before
+-- and the second one
+abbrev of-first : tie.After-known-told3 → tie.After-known-told
+of-first c = c .before .before .before .before
 
-first-at : (c : tie.After-a) → groupIn (start (of-a c) .args .file .now) (start (of-a c) .args .first) ≡ At (c .a .given .0 .0)
-first-at c = sym (c .before .before .find .ensures) ∙ c .a .given .1
+both-pass : (c : tie.After-known-told3) → compareCheck (start (of-first c) .args .file .now) (start (of-first c) .args .first) (start (of-first c) .args .second) ≡ Pass
+both-pass c =
+    first-passed _ _ _ (first-passes (of-first c))
+    ∙ found-at _ (sym (c .before .at2 .given .1) ∙ c .before .before .before .find .ensures) .0
 
-abbrev of-b : tie.After-b → tie.After-enum-told
-of-b c = c .before .before .before .before .before .before .before
+second : (c : tie.After-known-told3) → FoundAt (start (of-first c) .args .file .now) (start (of-first c) .args .second) (c .before .at2 .given .0 .0)
+second c =
+    found-besides _ _ 1 (first (of-first c) .checked .passed) (sym (c .before .at2 .given .1) ∙ c .before .before .before .find .ensures)
 
-second-at : (c : tie.After-b) → groupIn (start (of-b c) .args .file .now) (start (of-b c) .args .second) ≡ At (c .b .given .0 .0)
-second-at c = sym (c .before .before .find2 .ensures) ∙ c .b .given .1
+find-checked-requires : tie.Need-find-checked-requires
+find-checked-requires c κs = search needs
 
--- both parts are lent
-abbrev of-parts : tie.After-values-of2 → tie.After-enum-told
-of-parts c = of-b (c .before .before .before)
+enum-known-at : tie.Need-enum-known-at
+enum-known-at c = search needs
 
-first-part : (c : tie.After-values-of2) → PartOf (start (of-parts c) .args .file .now) (start (of-parts c) .args .first) (c .before .values-of .result .now)
-first-part c =
-    let a = c .before .before .before .before .before .before .before in
-    part-of _ _ _ (passed (of-a a)) (first-at a) (c .before .values-of .ensures .bytes)
-
-second-part : (c : tie.After-values-of2) → PartOf (start (of-parts c) .args .file .now) (start (of-parts c) .args .second) (c .values-of2 .result .now)
-second-part c =
-    let b = c .before .before .before in
-    part-of _ _ _ (passed (of-b b)) (second-at b) (c .values-of2 .ensures .bytes)
-
-check-file-requires : tie.Need-check-file-requires
-check-file-requires c κs = search needs
-
-enum-told : tie.Need-enum-told
-enum-told c = search needs
-
-enum-told-2 : tie.Need-enum-told-2
-enum-told-2 c = search needs
+enum-known-refusal : tie.Need-enum-known-refusal
+enum-known-refusal c = search needs
 
 returns : tie.Need-returns
-returns c = not-compared _ _ _ _ (stops _ (c .before .before .check-file .ensures) (search needs)) (search needs)
+returns c =
+    let told = found-refused _ _ (sym (c .before .refusal .given .1) ∙ c .before .before .before .find-checked .ensures) in
+    in-figures (not-compared _ _ _ (first-refused _ _ _ told))
 
 find-requires : tie.Need-find-requires
-find-requires c κs = laid-out c
+find-requires c κs = values-inside _ _ (first c) .0
 
-enum-known-a : tie.Need-enum-known-a
-enum-known-a c = search needs
+enum-known-at-2 : tie.Need-enum-known-at-2
+enum-known-at-2 c = search needs
 
-enum-told-3 : tie.Need-enum-told-3
-enum-told-3 c = search needs
+enum-known-refusal-2 : tie.Need-enum-known-refusal-2
+enum-known-refusal-2 c = search needs
 
 returns-2 : tie.Need-returns-2
 returns-2 c =
-    let f = c .before .before in
-    not-compared _ _ _ _ (first-missing _ _ _ (passed (f .before)) (sym (f .find .ensures) ∙ c .enum-told3 .given .1)) refl
-
-find-requires-2 : tie.Need-find-requires-2
-find-requires-2 c κs = laid-out (c .before .before .before .before)
-
-enum-known-b : tie.Need-enum-known-b
-enum-known-b c = search needs
-
-enum-told-4 : tie.Need-enum-told-4
-enum-told-4 c = search needs
-
-returns-3 : tie.Need-returns-3
-returns-3 c =
-    let f = c .before .before in
-    let a = f .before .before in
-    not-compared _ _ _ _
-    (second-missing _ _ _ (passed (of-a a)) (first-at a) (sym (f .find2 .ensures) ∙ c .enum-told4 .given .1)) refl
+    let told = found-refused _ _ (sym (c .before .refusal2 .given .1) ∙ c .before .before .before .find .ensures) in
+    in-figures (not-compared _ _ _ (first-passed _ _ _ (first-passes (c .before .before .before .before)) ∙ told))
 
 values-of-requires : tie.Need-values-of-requires
-values-of-requires c κs =
-    let a = c .before .before .before .before .before in
-    let laid = laid-out (of-a a) in
-    (laid, found-inside _ _ _ laid (first-at a))
+values-of-requires c κs = values-inside _ _ (first (of-first c))
 
 values-of-requires-2 : tie.Need-values-of-requires-2
-values-of-requires-2 c κs =
-    let b = c .before .before in
-    let laid = laid-out (of-b b) in
-    (laid, found-inside _ _ _ laid (second-at b))
+values-of-requires-2 c κs = values-inside _ _ (second (c .before))
 
 same-values-requires : tie.Need-same-values-requires
 same-values-requires c κs =
-    part-length _ _ _ (first-part c) ∙ sym (part-length _ _ _ (second-part c))
+    let found = c .before .before in
+    part-length _ _ (first (of-first found)) (c .before .values-of .ensures .bytes)
+    ∙ sym (part-length _ _ (second found) (c .values-of2 .ensures .bytes))
+
+-- both parts hold their tables, so what the search for a difference says is the answer
+abbrev of-second : tie.After-same-values → tie.After-known-told3
+of-second c = c .before .before .before
+
+by : (c : tie.After-same-values) (alike : Bool) →
+    alike ≡ same (wordsOf (c .before .before .values-of .result .now)) (wordsOf (c .before .values-of2 .result .now)) →
+    cond alike Alike Different ≡ comparison (start (of-first (of-second c)) .args .file .now) (start (of-first (of-second c)) .args .first) (start (of-first (of-second c)) .args .second)
+by c alike e =
+    let found = of-second c in
+    compared _ _ _ (both-pass found) _ _
+    (part-words _ _ (first (of-first found)) (c .before .before .values-of .ensures .bytes))
+    (part-words _ _ (second found) (c .before .values-of2 .ensures .bytes)) alike e
+
+returns-3 : tie.Need-returns-3
+returns-3 c = in-figures (by (c .before) true (sym (c .if1 .taken) ∙ c .before .same-values .ensures))
 
 returns-4 : tie.Need-returns-4
-returns-4 c =
-    let s = c .before in
-    let parts = s .before in
-    compared _ _ _ (passed (of-parts parts)) _ _ (first-part parts) (second-part parts) true
-    (sym (c .if1 .taken) ∙ s .same-values .ensures)
-
-returns-5 : tie.Need-returns-5
-returns-5 c =
-    let s = c .before in
-    let parts = s .before in
-    compared _ _ _ (passed (of-parts parts)) _ _ (first-part parts) (second-part parts) false
-    (sym (c .if1 .left) ∙ s .same-values .ensures)
+returns-4 c = in-figures (by (c .before) false (sym (c .if1 .left) ∙ c .before .same-values .ensures))
 
 pub compare-spec : {M : Type 1} → statement M
 compare-spec =
     tie.close
     (tie.spec
-    check-file-requires
-    enum-told
-    enum-told-2
+    find-checked-requires
+    enum-known-at
+    enum-known-refusal
     returns
     find-requires
-    enum-known-a
-    enum-told-3
+    enum-known-at-2
+    enum-known-refusal-2
     returns-2
-    find-requires-2
-    enum-known-b
-    enum-told-4
-    returns-3
     values-of-requires
     values-of-requires-2
     same-values-requires
-    returns-4
-    returns-5)
+    returns-3
+    returns-4)

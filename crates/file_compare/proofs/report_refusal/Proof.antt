@@ -1,4 +1,4 @@
--- `file_compare::report_refusal` meets its contract: number and place are those of the verdict.
+-- `file_compare::report_refusal` meets its contract: number and place are the refusal's own.
 -- Assumes nothing.
 use borrow.Author.Needs.{needs}
 use Rattle.file_compare.proofs.report_refusal.Statement.{statement}

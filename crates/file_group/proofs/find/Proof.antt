@@ -1,24 +1,38 @@
 -- `file_group::find` meets its contract. The loop's invariant: what is left to search is all that counts, and the profiles that are
 -- left end where the file ends. The measure is how many are left. Assumes nothing.
 use mathlib.Core.Path.{_≡_, refl, sym, _∙_}
-use Prim.Native.Nat.{_+_, _*_}
+use mathlib.Core.List.{List}
+use Prim.Native.Nat.{ℕ, zero, suc, _+_, _*_, _≤_, _<_}
 use native.Mathlib.Omega.{arith}
 use lib.ListN.{length}
 use Rattle.lists.proofs.Strides.{stride}
+use Rattle.refusal.specs.declared.Refusal.the-variants.{NoGroup}
 use Rattle.file_layout.specs.Header.{layoutOf, profileLength}
-use Rattle.file_group.specs.Group.{findAmong, groupIn}
-use Rattle.file_group.proofs.Group.{find-here, find-later, find-end}
+use Rattle.file_group.specs.declared.Found.the-variants.{At, Refused}
+use Rattle.file_group.specs.Group.{offsetAmong, groupOffset, groupQuestion}
+use Rattle.file_group.specs.Inside.{foundBy}
+use Rattle.file_group.proofs.Group.{find-here, find-later, find-end, group-there, group-missing, answers-at, answers-refused}
 use Rattle.file_group.proofs.find.Statement.{statement}
 use Rattle.file_group.proofs.find.Tie as tie
 
+-- the answer, by where the search ends
+module _ (file : List ℕ) (group place : ℕ) {at : ℕ} where
+  stands-here : at < length file → at ≡ groupOffset file group → At at ≡ foundBy (groupQuestion file group place) (groupOffset file group)
+  stands-here h e = answers-at (group-there file group place (rw (← e) h)) e
+
+  missing : (left step : ℕ) → left ≤ 0 → at + left * step ≡ length file → at ≡ groupOffset file group →
+      Refused (NoGroup place) ≡ foundBy (groupQuestion file group place) (groupOffset file group)
+  missing zero step h end e = answers-refused _ (group-missing file group place (rw (← e) (omega arith)))
+  missing (suc left) step h end e = absurd (omega arith)
+
 abbrev Inv-loop : tie.InvT-loop
-Inv-loop file group step left₀ at₀ left at =
-    (findAmong (layoutOf file) file group left at ≡ groupIn file group)
+Inv-loop file group place step left₀ at₀ left at =
+    (offsetAmong (layoutOf file) file group left at ≡ groupOffset file group)
     × (at + left * step ≡ length file)
     × (step ≡ profileLength (layoutOf file))
 
 abbrev μ-loop : tie.MeasureT-loop
-μ-loop file group step left₀ at₀ left at = left
+μ-loop file group place step left₀ at₀ left at = left
 
 layout-of-requires : tie.Need-layout-of-requires Inv-loop μ-loop
 layout-of-requires c κs = omega arith
@@ -38,7 +52,10 @@ shared-slice-read-if1 c =
 returns : tie.Need-returns Inv-loop μ-loop
 returns c =
     let l = c .before .before .before .loop in
-    sym (find-here _ _ _ (l .left) (l .at) (omega arith) (c .if1 .taken)) ∙ l .inv .0
+    let step = c .before .before .before .before .profile-length .result in
+    let inside : l .at < length (c .before .before .before .before .before .before .before .args .file .now) =
+    omega (arith, stride (l .left) step (omega arith)) in
+    stands-here _ _ _ inside (sym (find-here _ _ _ (l .left) (l .at) (omega arith) (c .if1 .taken)) ∙ l .inv .0)
 
 add-at : tie.Need-add-at Inv-loop μ-loop
 add-at c =
@@ -61,7 +78,7 @@ loop-again c =
 returns-2 : tie.Need-returns-2 Inv-loop μ-loop
 returns-2 c =
     let l = c .before .loop in
-    sym (find-end _ _ _ (l .left) (l .at) (omega arith)) ∙ l .inv .0
+    missing _ _ _ (l .left) _ (omega arith) (l .inv .1) (sym (find-end _ _ _ (l .left) (l .at) (omega arith)) ∙ l .inv .0)
 
 pub find-spec : {M : Type 1} → statement M
 find-spec =

@@ -1,131 +1,115 @@
 -- `file_read::read` meets its contract: a refusal keeps the table, and else the found profile's part holds the group's values.
 -- Assumes nothing.
-use mathlib.Core.Path.{_≡_, refl, sym, _∙_, ap}
-use Prim.Native.Nat.{ℕ, _≤_, _<_}
+use mathlib.Core.Path.{_≡_, sym, _∙_, ap}
 use native.Mathlib.Omega.{arith}
 use lib.ListN.{length}
 use borrow.Author.Needs.{needs}
-use Rattle.refusal.specs.declared.Verdict.the-variants.{Pass, Refused}
-use Rattle.refusal.specs.declared.Refusal.the-variants.{ShortOutput}
-use Rattle.refusal.proofs.Questions.{stops}
+use Rattle.refusal.specs.Questions.{roomQuestion}
+use Rattle.refusal.proofs.Questions.{is-refused, stops, then-pass, room-passed}
 use Rattle.file_layout.specs.declared.Layout.{Layout}
 use Rattle.file_layout.specs.Header.{layoutOf}
-use Rattle.file_check.specs.Check.{fileCheck}
-use Rattle.file_check.proofs.Check.{accepted}
 use Rattle.file_group.specs.declared.Found.the-variants.{At}
-use Rattle.file_group.specs.Group.{groupIn}
-use Rattle.file_group.proofs.Group.{found-inside, check-missing, PartOf, part-of, part-count, part-words}
-use Rattle.file_read.proofs.Reading.{read-refused, read-short, read-passed, read-table}
+use Rattle.file_group.specs.Group.{groupOffset, check}
+use Rattle.file_group.specs.Inside.{foundBy, verdictOf}
+use Rattle.file_group.proofs.Group.{found-at, verdict-of-found, FoundAt, found-checked, values-inside, part-count, part-words}
+use Rattle.file_read.specs.Reading.{readCheck}
+use Rattle.file_read.proofs.Reading.{read-refused, read-filled}
 use Rattle.file_read.proofs.read.Statement.{statement}
 use Rattle.file_read.proofs.read.Tie as tie
 
--- the file passed; the group was found
-abbrev start : tie.After-enum-told → tie.Start
-start c = c .before .before .before .before .before
+-- the group was found
+abbrev start : tie.After-known-told → tie.Start
+start c = c .before .before .before .before .before .before
 
-passed : (c : tie.After-enum-told) → fileCheck (start c .args .file .now) ≡ Pass
-passed c = sym (c .before .before .check-file .ensures) ∙ c .enum-told .given .1
+found : (c : tie.After-known-told) →
+    At (c .before .found .given .0 .0) ≡ foundBy (check (start c .args .file .now) (start c .args .group)) (groupOffset (start c .args .file .now) (start c .args .group))
+found c = sym (c .before .found .given .1) ∙ c .before .before .before .find-checked .ensures
 
-abbrev of-at : tie.After-at → tie.After-enum-told
-of-at c = c .before .before .before
+there : (c : tie.After-known-told) → FoundAt (start c .args .file .now) (start c .args .group) (c .before .found .given .0 .0)
+there c = found-checked _ _ (found c)
 
-found : (c : tie.After-at) → groupIn (start (of-at c) .args .file .now) (start (of-at c) .args .group) ≡ At (c .at .given .0 .0)
-found c = sym (c .before .before .find .ensures) ∙ c .at .given .1
+-- question 12 was asked
+abbrev of-room : tie.After-room-question → tie.After-known-told
+of-room c = c .before .before
 
--- how many entries are needed; the part is lent
-abbrev of-layout : tie.After-layout-of → tie.After-at
-of-layout c = c .before .before
+asked : (c : tie.After-room-question) → c .room-question .result ≡ roomQuestion (layoutOf (start (of-room c) .args .file .now) .values) (length (start (of-room c) .args .table .now))
+asked c =
+    c .room-question .ensures
+    ∙ ap (λ (layout : Layout). roomQuestion (layout .values) (length (start (of-room c) .args .table .now))) (c .before .layout-of .ensures .0)
 
-needed : (c : tie.After-layout-of) → c .layout-of .result .values ≡ layoutOf (start (of-at (of-layout c)) .args .file .now) .values
-needed c = ap (λ (layout : Layout). layout .values) (c .layout-of .ensures .0)
+all-asked : (c : tie.After-room-question) → c .room-question .result ≡ readCheck (start (of-room c) .args .file .now) (start (of-room c) .args .group) (length (start (of-room c) .args .table .now))
+all-asked c = asked c ∙ sym (then-pass _ (found-at _ (found (of-room c)) .0))
 
-abbrev of-part : tie.After-values-of → tie.After-at
-of-part c = of-layout (c .before .before)
+find-checked-requires : tie.Need-find-checked-requires
+find-checked-requires c κs = search needs
 
-part : (c : tie.After-values-of) → PartOf (start (of-at (of-part c)) .args .file .now) (start (of-at (of-part c)) .args .group) (c .values-of .result .now)
-part c = part-of _ _ _ (passed (of-at (of-part c))) (found (of-part c)) (c .values-of .ensures .bytes)
-
-check-file-requires : tie.Need-check-file-requires
-check-file-requires c κs = search needs
+enum-known-found : tie.Need-enum-known-found
+enum-known-found c = search needs
 
 enum-told : tie.Need-enum-told
 enum-told c = search needs
 
-enum-told-2 : tie.Need-enum-told-2
-enum-told-2 c = search needs
+verdict-of-requires : tie.Need-verdict-of-requires
+verdict-of-requires c κs = search needs
 
 returns : tie.Need-returns
 returns c =
-    let v = c .before .before .check-file in
-    let e = stops _ (stops _ (v .ensures) (search needs)) (search needs) in
-    (e, read-refused _ _ _ e (search needs))
+    let f = c .before .before .before .find-checked in
+    let told : c .verdict-of .result ≡ check _ _ = c .verdict-of .ensures ∙ ap verdictOf (f .ensures) ∙ verdict-of-found _ _ in
+    let refused = is-refused (c .verdict-of .ensures ∙ ap verdictOf (c .before .enum-told .given .1)) in
+    read-refused _ _ _ (stops _ told refused) refused
 
-find-requires : tie.Need-find-requires
-find-requires c κs = accepted _ (passed c) .headed .laid
+layout-of-requires : tie.Need-layout-of-requires
+layout-of-requires c κs = omega (arith, values-inside _ _ (there c) .0 .whole)
 
-enum-known-at : tie.Need-enum-known-at
-enum-known-at c = search needs
+room-question-requires : tie.Need-room-question-requires
+room-question-requires c κs = search needs
+
+enum-told-2 : tie.Need-enum-told-2
+enum-told-2 c = search needs
 
 enum-told-3 : tie.Need-enum-told-3
 enum-told-3 c = search needs
 
 returns-2 : tie.Need-returns-2
-returns-2 c =
-    let f = c .before .before in
-    let e = stops _ (sym (check-missing _ _ (passed (f .before)) (sym (f .find .ensures) ∙ c .enum-told3 .given .1))) refl in
-    (e, read-refused _ _ _ e refl)
-
-layout-of-requires : tie.Need-layout-of-requires
-layout-of-requires c κs = accepted _ (passed (of-at (c .before))) .headed .header
-
-returns-3 : tie.Need-returns-3
-returns-3 c =
-    let a = of-layout (c .before) in
-    let args = start (of-at a) .args in
-    let table = args .table .now in
-    let short : length table < layoutOf (args .file .now) .values = omega (arith, needed (c .before)) in
-    let e = ap (λ (n : ℕ). Refused (ShortOutput n)) (needed (c .before)) ∙ read-short _ _ table _ (passed (of-at a)) (found a) short in
-    (e, read-refused _ _ _ e refl)
+returns-2 c = read-refused _ _ _ (all-asked (c .before .before)) (is-refused (c .enum-told3 .given .1))
 
 values-of-requires : tie.Need-values-of-requires
-values-of-requires c κs =
-    let a = of-layout (c .before) in
-    let laid = accepted _ (passed (of-at a)) .headed .laid in
-    (laid, found-inside _ _ _ laid (found a))
+values-of-requires c κs = values-inside _ _ (there (of-room (c .before .before)))
 
 fill-requires : tie.Need-fill-requires
 fill-requires c κs =
-    let n = part-count _ _ _ (part (c .before)) in
-    omega (arith, needed (c .before .before .before), c .before .before .if1 .left)
+    let passed = c .before .before in
+    let room = passed .before .before in
+    omega (arith, part-count _ _ (there (of-room room)) (c .before .values-of .ensures .bytes), room-passed _ _ (sym (asked room) ∙ passed .enum-told2 .given .1))
 
 same-length : tie.Need-same-length
 same-length c = search needs
 
-returns-4 : tie.Need-returns-4
-returns-4 c =
+returns-3 : tie.Need-returns-3
+returns-3 c =
     let lent = c .before .before .before .before in
-    let a = of-part lent in
-    let args = start (of-at a) .args in
-    let table = args .table .now in
-    let room : layoutOf (args .file .now) .values ≤ length table = omega (arith, needed (lent .before .before), lent .before .if1 .left) in
-    let after = rw (part-words _ _ _ (part lent), part-count _ _ _ (part lent)) at (c .before .before .fill .ensures) in
-    (read-passed _ _ table _ (passed (of-at a)) (found a) room, after ∙ sym (read-table _ _ table _ (passed (of-at a)) (found a) room))
+    let passed = lent .before in
+    let room = passed .before .before in
+    let at = there (of-room room) in
+    let bytes = lent .values-of .ensures .bytes in
+    read-filled _ _ _ (all-asked room) (passed .enum-told2 .given .1) (rw (part-words _ _ at bytes, part-count _ _ at bytes) at (c .before .before .fill .ensures))
 
 pub read-spec : {M : Type 1} → statement M
 read-spec =
     tie.close
     (tie.spec
-    check-file-requires
+    find-checked-requires
+    enum-known-found
     enum-told
-    enum-told-2
+    verdict-of-requires
     returns
-    find-requires
-    enum-known-at
+    layout-of-requires
+    room-question-requires
+    enum-told-2
     enum-told-3
     returns-2
-    layout-of-requires
-    returns-3
     values-of-requires
     fill-requires
     same-length
-    returns-4)
+    returns-3)

@@ -1,12 +1,13 @@
 -- `file_write::write` meets its contract: a refusal leaves the buffer as it was, and what is put into it otherwise is the file.
 -- Assumes nothing.
-use mathlib.Core.Path.{_≡_, sym, _∙_}
+use mathlib.Core.Path.{_≡_, sym, _∙_, ap}
 use mathlib.Core.List.{List}
 use Prim.Native.Nat.{ℕ, _+_, _*_, _≤_}
 use native.Mathlib.Omega.{arith}
 use lib.ListN.{length}
 use borrow.Author.Needs.{needs}
 use Rattle.refusal.specs.declared.Verdict.the-variants.{Pass}
+use Rattle.refusal.specs.Questions.{reported}
 use Rattle.file_written.proofs.Written.{length-written}
 use Rattle.file_write_check.specs.WriteCheck.{writeCheck}
 use Rattle.file_write_check.proofs.Passed.{Writable, writable}
@@ -48,7 +49,7 @@ enum-told-2 c = search needs
 returns : tie.Need-returns
 returns c =
     let asked = c .before .before .write-check .ensures in
-    (asked, keeps _ _ asked (search needs))
+    (asked, (ap reported asked, keeps _ _ asked (search needs)))
 
 put-header-requires : tie.Need-put-header-requires
 put-header-requires c κs =
@@ -64,11 +65,10 @@ same-length c = search needs
 
 returns-2 : tie.Need-returns-2
 returns-2 c =
-    let p = c .before .before .before .before .before .before .before .before in (
-      p .before .before .write-check .ensures,
-      file-stored _ _ _ (told p .fits) (c .before .before .before .before .before .before .put-header .ensures) (c .before .before .put-profiles .ensures)
-          ∙ fills _ _ (passed p),
-    )
+    let p = c .before .before .before .before .before .before .before .before in
+    let asked = p .before .before .write-check .ensures in
+    let stored = file-stored _ _ _ (told p .fits) (c .before .before .before .before .before .before .put-header .ensures) (c .before .before .put-profiles .ensures) in
+    (asked, (ap reported asked, stored ∙ fills _ _ (passed p)))
 
 pub write-spec : {M : Type 1} → statement M
 write-spec =

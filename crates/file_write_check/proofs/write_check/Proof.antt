@@ -1,14 +1,15 @@
 -- `file_write_check::write_check` meets its contract: each question is that of the definition, and the chain stops at the
 -- first that did not pass. Assumes nothing.
-use mathlib.Core.Path.{_≡_, refl, sym, _∙_}
+use mathlib.Core.Path.{_≡_, refl, sym, _∙_, ap}
 use mathlib.Core.List.{List}
 use Prim.Native.Nat.{ℕ}
 use borrow.Author.Needs.{needs}
 use Rattle.refusal.specs.declared.Verdict.the-variants.{Pass}
+use Rattle.refusal.specs.Questions.{roomQuestion}
 use Rattle.refusal.proofs.Questions.{then-pass, stops}
+use Rattle.file_written.proofs.Written.{length-written}
 use Rattle.file_write_check.specs.WriteCheck.{amountQuestion, writeCheck}
 use Rattle.file_write_check.proofs.Passed.{Amounts, amounts}
-use Rattle.file_write_check.proofs.WriteCheck.{room-asked}
 use Rattle.file_write_check.proofs.write_check.Statement.{statement}
 use Rattle.file_write_check.proofs.write_check.Tie as tie
 
@@ -76,19 +77,24 @@ returns-3 c =
     ∙ sym (then-pass _ (sym second ∙ codesPass (c .before .before .before)))
     ∙ sym (then-pass _ (amountPass first))
 
+bytes-needed-requires : tie.Need-bytes-needed-requires
+bytes-needed-requires c κs = amount (c .before .before .before .before .before .before) .most
+
 room-question-requires : tie.Need-room-question-requires
-room-question-requires c κs = amount (c .before .before .before .before .before .before) .most
+room-question-requires c κs = search needs
 
 returns-4 : tie.Need-returns-4
 unfolding writeCheck
 returns-4 c =
-    let first = c .before .before .before .before .before .before .before in
-    let second = c .before .before .before .before .before .before .codes-question .ensures _ (amount first .each) in
-    let third = c .before .before .before .values-question .ensures _ refl in
+    let last = c .before .before in
+    let first = last .before .before .before .before .before .before in
+    let second = last .before .before .before .before .before .codes-question .ensures _ (amount first .each) in
+    let third = last .before .before .values-question .ensures _ refl in
+    let needed = c .before .bytes-needed .ensures ∙ sym (length-written _ _ (amount first .each)) in
     c .room-question .ensures
-    ∙ room-asked _ _ (amount first .each) _
-    ∙ sym (then-pass _ (sym third ∙ c .before .enum-told5 .given .1))
-    ∙ sym (then-pass _ (sym second ∙ codesPass (c .before .before .before .before)))
+    ∙ ap (λ (n : ℕ). roomQuestion n (first .before .before .before .before .before .args .room)) needed
+    ∙ sym (then-pass _ (sym third ∙ last .enum-told5 .given .1))
+    ∙ sym (then-pass _ (sym second ∙ codesPass (last .before .before .before)))
     ∙ sym (then-pass _ (amountPass first))
 
 pub write-check-spec : {M : Type 1} → statement M
@@ -107,5 +113,6 @@ write-check-spec =
     enum-told-5
     enum-told-6
     returns-3
+    bytes-needed-requires
     room-question-requires
     returns-4)
