@@ -8,14 +8,15 @@ use lib.ListN.{length, take, drop}
 use Rattle.lists.specs.Lists.{sum, Each}
 use Rattle.refusal.specs.declared.Verdict.the-variants.{Pass}
 use Rattle.refusal.specs.Questions.{onPass}
-use Rattle.calendar_dates.specs.Dates.{dateOf, nextDay, daysLater}
+use Rattle.calendar_dates.specs.Dates.{dateOf, nextDay}
 use Rattle.carry.specs.Energy.{Quarter, powers, exactSum, Within, householdBound, otherBound}
 use Rattle.carry.specs.Carry.{figures, lastCarry}
-use Rattle.call_request.specs.Request.{Request, daysIn, quarters, series, requestCheck, outputQuestion}
+use Rattle.call_request.specs.Request.{Request, quarters, series, requestCheck, outputQuestion}
 use Rattle.call_expansion.specs.declared.Expansion.{Expansion}
 use Rattle.call_expansion.specs.declared.Expansion.the-variants.{Expanded, Refused}
 use Rattle.call_expansion.specs.Answered.{answered, reported}
 use Rattle.call_expand.specs.Expanding.{expandCheck, totals, expansion, Expands}
+use Rattle.claim_successive.specs.Pieces.{PieceOfPeriod}
 
 -- The calls.
 
@@ -168,15 +169,11 @@ pub record JoinedCalls (common : Common) (start : ℕ) (calls : List Call) : Typ
 
 -- A piece.
 
--- "A piece is a call for one or more successive days of an accepted whole": 1 + more of them, after the first `before`. Its carry is
--- any in range, so also the one that is handed on.
+-- "A piece is a call for one or more successive days of an accepted whole", "all else but the output the same". Its carry is any in
+-- range, so also the one that is handed on.
 pub record Piece (whole piece : Request) : Type 0 where
-  pub before : ℕ
-  pub more : ℕ
-  pub inside : before + more < daysIn whole
+  pub days : PieceOfPeriod (whole .first) (whole .last) (piece .first) (piece .last)
   pub same : commonOf piece ≡ commonOf whole
-  pub begins : dateOf (piece .first) ≡ daysLater before (dateOf (whole .first))
-  pub ends : dateOf (piece .last) ≡ daysLater (before + more) (dateOf (whole .first))
   pub carryInRange : piece .carry < 40_000
 
 -- "it passes every question but 12, and 12 where its own output is long enough"
