@@ -20,7 +20,8 @@ use Rattle.call_request.proofs.Request.{Sound, sound}
 use Rattle.call_expansion.specs.Answered.{answered}
 use Rattle.call_expand.specs.Expanding.{expandCheck, totals, expansion}
 use Rattle.claim_successive.specs.Pieces.{PieceOfPeriod, PiecesPass}
-use Rattle.claim_successive.specs.SuccessiveCalls.{Call, ByContract, isAccepted, Common, Piece, OutputAlone}
+use Rattle.claim_successive.specs.Reports.{isAccepted}
+use Rattle.claim_successive.specs.SuccessiveCalls.{Call, ByContract, Common, Piece, OutputAlone}
 use Rattle.claim_successive.proofs.Answers.{took}
 
 -- the days of a piece are a period
