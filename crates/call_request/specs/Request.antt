@@ -59,13 +59,22 @@ useQuestion yearly = ask (leb yearly 1_000_000_000) BadUse
 unfoldable pub carryQuestion : ℕ → Verdict
 carryQuestion carry = ask (leb carry 39_999) BadCarry
 
+-- what is asked of the file and the group, ahead of the period: questions 1 to 6
+abbrev pub aheadOfPeriod : List ℕ → ℕ → Verdict
+aheadOfPeriod file group = check file group
+
+-- what is asked of the holiday list, the yearly use and the carry, behind the period: questions 9 to 11
+abbrev pub behindPeriod : List ℕ → ℕ → ℕ → Verdict
+behindPeriod holidays yearly carry = holidaysQuestion holidays then useQuestion yearly then carryQuestion carry
+
+-- the period, and what is asked behind it: questions 7 to 11
+abbrev pub fromPeriodOn : ℕ → ℕ → List ℕ → ℕ → ℕ → Verdict
+fromPeriodOn first last holidays yearly carry = periodCheck first last then behindPeriod holidays yearly carry
+
 -- questions 1 to 11
 abbrev pub requestCheck : Request → Verdict
 requestCheck q =
-    check (q .file) (q .group) then periodCheck (q .first) (q .last)
-    then holidaysQuestion (q .holidays)
-    then useQuestion (q .yearly)
-    then carryQuestion (q .carry)
+    aheadOfPeriod (q .file) (q .group) then fromPeriodOn (q .first) (q .last) (q .holidays) (q .yearly) (q .carry)
 
 -- 12. "Is the lent output long enough?": "place = entries needed"
 abbrev pub outputQuestion : Request → Verdict

@@ -8,6 +8,7 @@ use Rattle.refusal.specs.declared.Verdict.{Verdict}
 use Rattle.file_layout.specs.Header.{mark}
 use Rattle.call_request.specs.Request.{Request, request}
 use Rattle.call_expansion.specs.declared.Expansion.the-variants.{Expanded, Refused}
+use Rattle.call_expansion.specs.Answered.{reported}
 use Rattle.call_expand.specs.Expanding.{expansion, outputAfter}
 use Rattle.claim_successive.specs.SuccessiveCalls.{Call, ByContract, accepted, Common, Successive, SameAsWhole}
 
@@ -20,9 +21,9 @@ times (suc n) xs = xs ++ times n xs
 abbrev pub listingFile : List ℕ
 listingFile = mark ++ (0 ∷ 1 ∷ 1 ∷ 1 ∷ times 864 (3 ∷ 233 ∷ []))
 
--- the call that a request makes by its contract
+-- the call that a request makes by its contract, as it is reported
 abbrev pub callFor : Request → Call
-callFor q = record { given = q; answer = expansion q; after = outputAfter q }
+callFor q = record { given = q; answer = reported (expansion q); after = outputAfter q }
 
 -- "group 1, 20000325, 20000326, A = 1000, no holidays": a day each, and between them a call with a carry out of range
 abbrev pub saturday : Request

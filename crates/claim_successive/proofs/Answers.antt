@@ -1,41 +1,70 @@
--- What an accepted call's answer and output tell, and that a refused one adds nothing. Assumes nothing.
+-- What an accepted call's report and output tell, that a refused one adds nothing, and that calls of `expand` are reported so.
+-- Assumes nothing.
 use mathlib.Core.Path.{_≡_, refl, sym, _∙_, ap}
-use mathlib.Core.Bool.{true}
+use mathlib.Core.Bool.{Bool, true, false, cond}
+use mathlib.Core.List.{[]}
 use Prim.Native.Nat.{ℕ}
+use native.Mathlib.Omega.{arith}
+use lib.Dec.{eqb}
 use lib.ListN.{length, take}
 use lib.Seq.{take-append-seam}
 use Rattle.lists.specs.Lists.{sum}
-use Rattle.refusal.specs.declared.Verdict.the-variants.{Pass, Refused}
+use Rattle.refusal.specs.declared.Refusal.{Refusal}
+use Rattle.refusal.specs.declared.Refusal.the-variants.{NoMark, WrongVersion, WrongLength, BadCode, BadValue, NoGroup, BadDate, BadPeriod, BadHoliday, BadUse, BadCarry, ShortOutput, BadInput}
 use Rattle.refusal.specs.declared.Verdict.{Verdict}
-use Rattle.refusal.specs.Questions.{lentAfter}
-use Rattle.carry.specs.Carry.{lastCarry}
+use Rattle.refusal.specs.declared.Verdict.the-variants.{Pass, Refused}
+use Rattle.refusal.specs.Questions.{refusalNumber, lentAfter}
+use Rattle.carry.specs.declared.Totals.{Totals}
 use Rattle.carry.specs.Energy.{powers}
-use Rattle.call_request.specs.Request.{Request, quarters, series}
+use Rattle.carry.specs.Carry.{lastCarry}
+use Rattle.call_request.specs.Request.{quarters, series}
 use Rattle.call_expansion.specs.declared.Expansion.{Expansion}
-use Rattle.call_expansion.specs.Answered.{answered}
+use Rattle.call_expansion.specs.Answered.{answered, reported}
 use Rattle.call_expand.specs.Expanding.{expandCheck, totals, expansion, outputAfter}
-use Rattle.claim_successive.specs.SuccessiveCalls.{Call, ByContract, isAccepted, countOf, totalOf, carryAfter, figuresOf}
+use Rattle.claim_successive.specs.Reports.{isAccepted, isExpanded, ExpandReports}
+use Rattle.claim_successive.specs.SuccessiveCalls.{Call, ByContract, carryAfter, figuresOf}
+
+-- a refusal's number is never 0
+number-above-0 : (r : Refusal) → eqb (refusalNumber r) 0 ≡ false
+number-above-0 NoMark = refl
+number-above-0 WrongVersion = refl
+number-above-0 WrongLength = refl
+number-above-0 (BadCode at) = refl
+number-above-0 (BadValue at) = refl
+number-above-0 (NoGroup which) = refl
+number-above-0 (BadDate which) = refl
+number-above-0 BadPeriod = refl
+number-above-0 (BadHoliday index) = refl
+number-above-0 BadUse = refl
+number-above-0 BadCarry = refl
+number-above-0 (ShortOutput needed) = refl
+number-above-0 BadInput = refl
+
+-- so the report of an answer tells its case
+told : (v : Verdict) (t : Totals) → isAccepted (reported (answered v t)) ≡ isExpanded (answered v t)
+told Pass t = refl
+told (Refused r) t = number-above-0 r
 
 -- an accepted call leaves its request's series, and answers what that comes to
 pub record Took (c : Call) : Type 0 where
   pub passed : expandCheck (c .given) ≡ Pass
   pub figuresAre : figuresOf c ≡ series (c .given)
-  pub countIs : countOf (c .answer) ≡ length (series (c .given))
-  pub totalIs : totalOf (c .answer) ≡ sum (series (c .given))
+  pub countIs : c .answer .count ≡ length (series (c .given))
+  pub totalIs : c .answer .total ≡ sum (series (c .given))
   pub carryIs : (k : ℕ) → carryAfter k (c .answer) ≡ lastCarry (c .given .yearly) (powers (quarters (c .given))) (c .given .carry)
 
-no-refusal : (v : Verdict) (q : Request) → v ≡ expandCheck q → isAccepted (answered v (totals q)) ≡ true → v ≡ Pass
-no-refusal Pass q e h = refl
-no-refusal (Refused r) q e h = cc
+no-refusal : (v : Verdict) (t : Totals) → isAccepted (reported (answered v t)) ≡ true → v ≡ Pass
+no-refusal Pass t h = refl
+no-refusal (Refused r) t h = let n = number-above-0 r in cc
 
 pub took : (c : Call) → ByContract c → isAccepted (c .answer) ≡ true → Took c
 unfolding expansion outputAfter
-took c e h = from (no-refusal (expandCheck (c .given)) (c .given) refl (sym (ap isAccepted (e .answers)) ∙ h))
+took c e h = from (no-refusal (expandCheck (c .given)) (totals (c .given)) (sym (ap isAccepted (e .answers)) ∙ h))
   where
     from : expandCheck (c .given) ≡ Pass → Took c
     from p =
         let q = c .given in
-        let answer : c .answer ≡ Expansion.Expanded (totals q) = e .answers ∙ ap (λ (v : Verdict). answered v (totals q)) p in
+        let answer : c .answer ≡ reported (Expansion.Expanded (totals q)) = e .answers ∙ ap (λ (v : Verdict). reported (answered v (totals q))) p in
         let after : c .after ≡ lentAfter Pass (series q) (q .output) = e .leaves ∙ ap (λ (v : Verdict). lentAfter v (series q) (q .output)) p in
         record {
           passed = p;
@@ -44,3 +73,36 @@ took c e h = from (no-refusal (expandCheck (c .given)) (c .given) refl (sym (ap 
           totalIs = rw answer;
           carryIs = λ k. rw answer;
         }
+
+-- a refused call adds nothing and hands its carry on
+pub record Adds0 (c : Call) : Type 0 where
+  pub figuresAre : figuresOf c ≡ []
+  pub countIs : c .answer .count ≡ 0
+  pub totalIs : c .answer .total ≡ 0
+  pub carryIs : (k : ℕ) → carryAfter k (c .answer) ≡ k
+
+pub adds-nothing : (c : Call) → ByContract c → isAccepted (c .answer) ≡ false → Adds0 c
+unfolding expansion
+adds-nothing c e h = from (expandCheck (c .given)) (e .answers)
+  where
+    from : (v : Verdict) → c .answer ≡ reported (answered v (totals (c .given))) → Adds0 c
+    from Pass answer =
+        let yes : isAccepted (c .answer) ≡ true = ap isAccepted answer in
+        let z : _≡_ {A = ℕ} 0 1 = cc in
+        absurd (omega arith)
+    from (Refused r) answer =
+        record {
+          figuresAre = rw answer;
+          countIs = rw answer;
+          totalIs = rw answer;
+          carryIs = λ k. ap (λ (b : Bool). cond b (c .answer .carry) k) h;
+        }
+
+-- what `expand` answered, reported
+pub expand-reports : ExpandReports
+unfolding ExpandReports expansion
+expand-reports q answer after e =
+    record {
+      reports = record { answers = ap reported (e .answers); leaves = e .leaves };
+      tells = rw (e .answers) (told (expandCheck q) (totals q));
+    }

@@ -11,10 +11,9 @@ use Rattle.carry.specs.Carry.{figures, lastCarry}
 use Rattle.carry.specs.Energy.{Quarter, powers}
 use Rattle.carry.proofs.Carry.{figures-append, carry-append}
 use Rattle.call_request.specs.Request.{Request, quarters, series}
-use Rattle.call_expansion.specs.declared.Expansion.{Expansion}
-use Rattle.call_expansion.specs.declared.Expansion.the-variants.{Expanded, Refused}
-use Rattle.claim_successive.specs.SuccessiveCalls.{Call, ByContract, isAccepted, accepted, countOf, totalOf, carryAfter, figuresOf, joinedFigures, addedCounts, addedTotals, carryAfterAll, Common, commonOf, Successive, joinedQuarters}
-use Rattle.claim_successive.proofs.Answers.{took}
+use Rattle.claim_successive.specs.Reports.{isAccepted}
+use Rattle.claim_successive.specs.SuccessiveCalls.{Call, ByContract, accepted, carryAfter, figuresOf, joinedFigures, addedCounts, addedTotals, carryAfterAll, Common, commonOf, Successive, joinedQuarters}
+use Rattle.claim_successive.proofs.Answers.{took, adds-nothing}
 
 -- what the calls come to, begun with a carry
 pub record ComesTo (common : Common) (carry : ℕ) (calls : List Call) : Type 0 where
@@ -27,8 +26,8 @@ pub record ComesTo (common : Common) (carry : ℕ) (calls : List Call) : Type 0 
 one-more : (common : Common) (carry next : ℕ) (c : Call) (calls : List Call) (qs : List Quarter) →
     joinedQuarters (c ∷ calls) ≡ qs ++ joinedQuarters calls →
     figuresOf c ≡ figures (common .yearly) (powers qs) carry →
-    countOf (c .answer) ≡ length (figures (common .yearly) (powers qs) carry) →
-    totalOf (c .answer) ≡ sum (figures (common .yearly) (powers qs) carry) →
+    c .answer .count ≡ length (figures (common .yearly) (powers qs) carry) →
+    c .answer .total ≡ sum (figures (common .yearly) (powers qs) carry) →
     carryAfter carry (c .answer) ≡ next →
     next ≡ lastCarry (common .yearly) (powers qs) carry →
     ComesTo common next calls → ComesTo common carry (c ∷ calls)
@@ -39,8 +38,8 @@ one-more common carry next c calls qs quartersAre f n t k l rest =
     ap powers quartersAre ∙ map-append (λ q. q .power) qs (joinedQuarters calls) in
     record {
       figuresAre = rw (split, figures-append (common .yearly) (powers qs) (powers (joinedQuarters calls)) carry, f, rest .figuresAre, l);
-      countsAre = rw (f, length-append figs (joinedFigures calls), n, rest .countsAre);
-      totalsAre = rw (f, sum-append figs (joinedFigures calls), t, rest .totalsAre);
+      countsAre = rw (f, length-append figs (joinedFigures calls)) (omega (arith, n, rest .countsAre));
+      totalsAre = rw (f, sum-append figs (joinedFigures calls)) (omega (arith, t, rest .totalsAre));
       carryIs = rw (split, carry-append (common .yearly) (powers qs) (powers (joinedQuarters calls)) carry, k, ← l) (rest .carryIs);
     }
 
@@ -61,20 +60,6 @@ module _ (c : Call) (calls : List Call) where
   pub quarters-no : isAccepted (c .answer) ≡ false → joinedQuarters (c ∷ calls) ≡ joinedQuarters calls
   unfolding joinedQuarters
   quarters-no h = rw h
-
--- a refused call adds nothing and hands its carry on
-pub record Adds0 (c : Call) : Type 0 where
-  pub figuresAre : figuresOf c ≡ []
-  pub countIs : countOf (c .answer) ≡ 0
-  pub totalIs : totalOf (c .answer) ≡ 0
-  pub carryIs : (k : ℕ) → carryAfter k (c .answer) ≡ k
-
-pub adds-nothing : (c : Call) → isAccepted (c .answer) ≡ false → Adds0 c
-adds-nothing c h = go (c .answer) refl h
-  where
-    go : (a : Expansion) → c .answer ≡ a → isAccepted a ≡ false → Adds0 c
-    go (Expanded t) e h = let z : _≡_ {A = ℕ} 0 1 = cc in absurd (omega arith)
-    go (Refused v) e h = record { figuresAre = rw e; countIs = rw e; totalIs = rw e; carryIs = λ k. rw e }
 
 -- an accepted call's series and carry, in what it has in common with the others
 pub in-common : (q : Request) (common : Common) (carry : ℕ) → commonOf q ≡ common → q .carry ≡ carry → (series q ≡ figures (common .yearly) (powers (quarters q)) carry) × (lastCarry (q .yearly) (powers (quarters q)) (q .carry) ≡ lastCarry (common .yearly) (powers (quarters q)) carry)
@@ -98,7 +83,7 @@ module _ (common : Common) (c : Call) (calls : List Call) (contract : ByContract
       (t .carryIs carry ∙ same .1)
       (rest (carryAfter carry (c .answer)) (front .3))
   in-front false h carry s =
-      let nothing = adds-nothing c h in
+      let nothing = adds-nothing c contract h in
       one-more common carry carry c calls [] (quarters-no c calls h) (nothing .figuresAre) (nothing .countIs) (nothing .totalIs) (nothing .carryIs carry) refl
       (rest carry (rw (accepted-no c calls h) at s))
 

@@ -3,22 +3,25 @@ use mathlib.Core.Path.{_≡_, _∙_, ap}
 use mathlib.Core.Bool.{true}
 use Prim.Native.Nat.{ℕ, _+_, _≤_, _<_}
 use native.Mathlib.Omega.{arith}
+use borrow.Author.Tests.{le-leb}
+use Rattle.refusal.specs.declared.Refusal.the-variants.{BadUse, BadCarry}
 use Rattle.refusal.specs.declared.Verdict.{Verdict}
-use Rattle.refusal.proofs.Questions.{then-pass}
+use Rattle.refusal.specs.declared.Verdict.the-variants.{Pass}
+use Rattle.refusal.proofs.Questions.{ask-yes, then-pass, then-first, then-next}
 use Rattle.calendar_dates.specs.declared.Date.{Date}
 use Rattle.calendar_dates.specs.Dates.{dateOf, dayNumber, daysLater, AllDates}
 use Rattle.calendar_dates.proofs.Later.{later-number}
 use Rattle.calendar_holidays.specs.Holidays.{holidaysQuestion}
 use Rattle.calendar_period.specs.Period.{daysOf}
-use Rattle.calendar_period.proofs.Period.{Period}
+use Rattle.calendar_period.proofs.Period.{Period, period-passed, period-passes}
 use Rattle.calendar_laws.proofs.Periods.{period-days}
-use Rattle.file_group.specs.Group.{check}
-use Rattle.call_request.specs.Request.{Request, outputQuestion}
-use Rattle.call_request.proofs.Request.{Sound, passes}
+use Rattle.call_request.specs.Request.{Request, useQuestion, carryQuestion, aheadOfPeriod, behindPeriod, requestCheck, outputQuestion}
+use Rattle.call_request.proofs.Request.{Sound, sound}
 use Rattle.call_expansion.specs.Answered.{answered}
 use Rattle.call_expand.specs.Expanding.{expandCheck, totals, expansion}
-use Rattle.call_expand.proofs.Expanding.{request-sound}
-use Rattle.claim_successive.specs.SuccessiveCalls.{Call, ByContract, isAccepted, Common, Piece, OutputAlone}
+use Rattle.claim_successive.specs.Pieces.{PieceOfPeriod, PiecesPass}
+use Rattle.claim_successive.specs.Reports.{isAccepted}
+use Rattle.claim_successive.specs.SuccessiveCalls.{Call, ByContract, Common, Piece, OutputAlone}
 use Rattle.claim_successive.proofs.Answers.{took}
 
 -- the days of a piece are a period
@@ -33,37 +36,50 @@ module _ (first last : Date) (all : AllDates (daysOf first last) first) (before 
   unfolding daysOf
   shorter = omega (arith, numbered before (omega arith), numbered (before + more) inside)
 
-piece-period : (whole piece : Request) → Period (whole .first) (whole .last) → Piece whole piece → Period (piece .first) (piece .last)
-piece-period whole piece w p =
-    let first = dateOf (whole .first) in
-    let last = dateOf (whole .last) in
-    let all = period-days first last (w .dates-first) (w .dates-last) (w .ordered) .dates in
-    let short = shorter first last all (p .before) (p .more) (p .inside) in
+piece-period : (first last from to : ℕ) → Period first last → PieceOfPeriod first last from to → Period from to
+piece-period first last from to w p =
+    let begin = dateOf first in
+    let end = dateOf last in
+    let all = period-days begin end (w .dates-first) (w .dates-last) (w .ordered) .dates in
+    let short = shorter begin end all (p .before) (p .more) (p .inside) in
     let inside = p .inside in
     record {
       dates-first = rw (p .begins) (all (p .before) (omega arith));
       dates-last = rw (p .ends) (all (p .before + p .more) (p .inside));
-      ordered = rw (p .begins, p .ends) (ordered first last all (p .before) (p .more) (p .inside));
+      ordered = rw (p .begins, p .ends) (ordered begin end all (p .before) (p .more) (p .inside));
       short = rw (p .begins, p .ends) (omega (arith, w .short));
     }
 
-piece-sound : (whole piece : Request) → Sound whole → Piece whole piece → Sound piece
-piece-sound whole piece s p =
-    let same = p .same in
-    let file : check (piece .file) (piece .group) ≡ check (whole .file) (whole .group) = ap (λ (x : Common). check (x .file) (x .group)) same in
-    let holidays : holidaysQuestion (piece .holidays) ≡ holidaysQuestion (whole .holidays) = ap (λ (x : Common). holidaysQuestion (x .holidays)) same in
-    let yearly : piece .yearly ≡ whole .yearly = ap (λ (x : Common). x .yearly) same in
-    record {
-      file = file ∙ s .file;
-      period = piece-period whole piece (s .period) p;
-      holidays = holidays ∙ s .holidays;
-      yearly = rw yearly (s .yearly);
-      carry = p .carryInRange;
-    }
+pub pieces-pass : PiecesPass
+unfolding PiecesPass
+pieces-pass ahead behind own first last from to h p k =
+    let whole = period-passed first last (then-first _ behind (then-next ahead _ h)) in
+    then-pass _ (then-first ahead _ h) ∙ then-pass own (period-passes from to (piece-period first last from to whole p)) ∙ k
+
+-- what is asked behind a piece's period: the list and the yearly use are the whole's, and its carry is in range
+behind-passes : (whole piece : Request) → Sound whole → Piece whole piece → behindPeriod (piece .holidays) (piece .yearly) (piece .carry) ≡ Pass
+unfolding useQuestion carryQuestion
+behind-passes whole piece s p =
+    let carry = p .carryInRange in
+    let holidays : holidaysQuestion (piece .holidays) ≡ holidaysQuestion (whole .holidays) = ap (λ (x : Common). holidaysQuestion (x .holidays)) (p .same) in
+    let yearly : piece .yearly ≡ whole .yearly = ap (λ (x : Common). x .yearly) (p .same) in
+    then-pass _ (holidays ∙ s .holidays) ∙ then-pass _ (ask-yes BadUse (le-leb (piece .yearly) 1_000_000_000 (rw yearly (s .yearly))))
+    ∙ ask-yes BadCarry (le-leb (piece .carry) 39_999 (omega arith))
+
+-- questions 1 to 11
+others-pass : (whole piece : Request) → requestCheck whole ≡ Pass → Piece whole piece → requestCheck piece ≡ Pass
+unfolding PiecesPass
+others-pass whole piece h p =
+    let same : aheadOfPeriod (piece .file) (piece .group) ≡ aheadOfPeriod (whole .file) (whole .group) =
+    ap (λ (x : Common). aheadOfPeriod (x .file) (x .group)) (p .same) in
+    rw same
+    (pieces-pass (aheadOfPeriod (whole .file) (whole .group)) (behindPeriod (whole .holidays) (whole .yearly) (whole .carry))
+    (behindPeriod (piece .holidays) (piece .yearly) (piece .carry)) (whole .first) (whole .last) (piece .first) (piece .last) h (p .days)
+    (behind-passes whole piece (sound whole h) p))
 
 pub output-alone : (whole : Call) (piece : Request) → ByContract whole → isAccepted (whole .answer) ≡ true → Piece (whole .given) piece → OutputAlone piece
 unfolding expandCheck expansion
 output-alone whole piece e h p =
-    let others = passes piece (piece-sound (whole .given) piece (request-sound (whole .given) (took whole e h .passed)) p) in
+    let others = others-pass (whole .given) piece (then-first _ (outputQuestion (whole .given)) (took whole e h .passed)) p in
     let all : expandCheck piece ≡ outputQuestion piece = then-pass (outputQuestion piece) others in
     record { others = others; answerIs = ap (λ (v : Verdict). answered v (totals piece)) all }

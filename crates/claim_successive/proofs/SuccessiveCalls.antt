@@ -14,10 +14,11 @@ use Rattle.carry.proofs.Carry.{carry-small}
 use Rattle.call_request.specs.Request.{Request, quarters, series}
 use Rattle.call_request.proofs.Request.{Sound}
 use Rattle.call_expand.specs.Expanding.{expandCheck, expansion}
-use Rattle.claim_successive.specs.SuccessiveCalls.{Call, ByContract, isAccepted, accepted, figuresOf, joinedFigures, Common, commonOf, Successive, IsWhole, SameAsWhole, joinedQuarters, NothingJoined, AsDefined, JoinedCalls, SuccessiveCalls}
+use Rattle.claim_successive.specs.Reports.{isAccepted}
+use Rattle.claim_successive.specs.SuccessiveCalls.{Call, ByContract, accepted, figuresOf, joinedFigures, Common, commonOf, Successive, IsWhole, SameAsWhole, joinedQuarters, NothingJoined, AsDefined, JoinedCalls, SuccessiveCalls}
 use Rattle.claim_successive.proofs.Chain.{ComesTo, in-common, comes-to}
 use Rattle.claim_successive.proofs.Whole.{quarters-in, allQuarters, covers, joined-accepted, each-sound}
-use Rattle.claim_successive.proofs.Answers.{took}
+use Rattle.claim_successive.proofs.Answers.{took, expand-reports}
 use Rattle.claim_successive.proofs.Runs.{run-within}
 use Rattle.claim_successive.proofs.Pieces.{output-alone}
 
@@ -91,4 +92,4 @@ joined common start calls small e s =
 
 pub successive-calls : SuccessiveCalls
 unfolding SuccessiveCalls
-successive-calls = (joined, output-alone)
+successive-calls = (joined, output-alone, expand-reports)

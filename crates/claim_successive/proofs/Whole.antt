@@ -19,7 +19,8 @@ use Rattle.series.proofs.Series.{quarters-add}
 use Rattle.call_request.specs.Request.{Request, daysIn, quarters}
 use Rattle.call_request.proofs.Request.{Sound}
 use Rattle.call_expand.proofs.Expanding.{request-sound}
-use Rattle.claim_successive.specs.SuccessiveCalls.{Call, ByContract, isAccepted, accepted, carryAfter, Common, commonOf, Successive, lastOf, joinedQuarters}
+use Rattle.claim_successive.specs.Reports.{isAccepted}
+use Rattle.claim_successive.specs.SuccessiveCalls.{Call, ByContract, accepted, carryAfter, Common, commonOf, Successive, lastOf, joinedQuarters}
 use Rattle.claim_successive.proofs.Chain.{accepted-yes, accepted-no, quarters-yes, quarters-no}
 use Rattle.claim_successive.proofs.Answers.{took}
 

@@ -1,1 +1,3 @@
+pub mod Pieces
+pub mod Reports
 pub mod SuccessiveCalls

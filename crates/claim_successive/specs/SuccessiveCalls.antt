@@ -1,6 +1,6 @@
 -- Demand 3, with document 01's "Series and carry": one claim about a list of expanding calls.
 use mathlib.Core.Path.{_≡_}
-use mathlib.Core.Bool.{Bool, true, false, cond}
+use mathlib.Core.Bool.{true, cond}
 use mathlib.Core.List.{List, [], _∷_, _++_}
 use Prim.Native.Nat.{ℕ, _+_, _<_}
 use lib.Dec.{eqb}
@@ -8,30 +8,27 @@ use lib.ListN.{length, take, drop}
 use Rattle.lists.specs.Lists.{sum, Each}
 use Rattle.refusal.specs.declared.Verdict.the-variants.{Pass}
 use Rattle.refusal.specs.Questions.{onPass}
-use Rattle.calendar_dates.specs.Dates.{dateOf, nextDay, daysLater}
+use Rattle.calendar_dates.specs.Dates.{dateOf, nextDay}
 use Rattle.carry.specs.Energy.{Quarter, powers, exactSum, Within, householdBound, otherBound}
 use Rattle.carry.specs.Carry.{figures, lastCarry}
-use Rattle.call_request.specs.Request.{Request, daysIn, quarters, series, requestCheck, outputQuestion}
-use Rattle.call_expansion.specs.declared.Expansion.{Expansion}
-use Rattle.call_expansion.specs.declared.Expansion.the-variants.{Expanded, Refused}
+use Rattle.call_request.specs.Request.{Request, quarters, series, requestCheck, outputQuestion}
+use Rattle.call_expansion.specs.declared.ExpansionReport.{ExpansionReport}
 use Rattle.call_expansion.specs.Answered.{answered, reported}
-use Rattle.call_expand.specs.Expanding.{expandCheck, totals, expansion, Expands}
+use Rattle.call_expand.specs.Expanding.{expandCheck, totals, expansion}
+use Rattle.claim_successive.specs.Pieces.{PieceOfPeriod}
+use Rattle.claim_successive.specs.Reports.{Reports, isAccepted, ExpandReports}
 
 -- The calls.
 
--- a call of expanding: what it was given, what it answered, and its output afterwards
+-- a call of expanding: what it was given, the report that it answered, and its output afterwards
 pub record Call : Type 0 where
   pub given : Request
-  pub answer : Expansion
+  pub answer : ExpansionReport
   pub after : List ℕ
 
--- its result is what the contract of expanding gives
+-- its result is what the contract of the exported call gives; by `ExpandReports` the calls of `expand` are among these
 abbrev pub ByContract : Call → Type 0
-ByContract c = Expands (c .given) (c .answer) (c .after)
-
-abbrev pub isAccepted : Expansion → Bool
-isAccepted (Expanded t) = true
-isAccepted (Refused v) = false
+ByContract c = Reports (c .given) (c .answer) (c .after)
 
 -- the accepted ones of a list, in its order
 unfoldable pub accepted : List Call → List Call
@@ -40,21 +37,13 @@ accepted (c ∷ calls) = cond (isAccepted (c .answer)) (c ∷ accepted calls) (a
 
 -- What a list of calls comes to.
 
--- count and total of an answer, both 0 for a refusal
-abbrev pub countOf : Expansion → ℕ
-countOf answer = reported answer .count
-
-abbrev pub totalOf : Expansion → ℕ
-totalOf answer = reported answer .total
-
 -- the carry after a call: that of an accepted one; of a refused one "its zeros are not handed on"
-abbrev pub carryAfter : ℕ → Expansion → ℕ
-carryAfter carry (Expanded t) = t .carry
-carryAfter carry (Refused v) = carry
+abbrev pub carryAfter : ℕ → ExpansionReport → ℕ
+carryAfter carry report = cond (isAccepted report) (report .carry) carry
 
 -- "Figures are taken as each call leaves them"
 abbrev pub figuresOf : Call → List ℕ
-figuresOf c = take (countOf (c .answer)) (c .after)
+figuresOf c = take (c .answer .count) (c .after)
 
 -- "and joined in the order of the calls; counts and totals are added as whole numbers"
 unfoldable pub joinedFigures : List Call → List ℕ
@@ -63,11 +52,11 @@ joinedFigures (c ∷ calls) = figuresOf c ++ joinedFigures calls
 
 unfoldable pub addedCounts : List Call → ℕ
 addedCounts [] = 0
-addedCounts (c ∷ calls) = countOf (c .answer) + addedCounts calls
+addedCounts (c ∷ calls) = c .answer .count + addedCounts calls
 
 unfoldable pub addedTotals : List Call → ℕ
 addedTotals [] = 0
-addedTotals (c ∷ calls) = totalOf (c .answer) + addedTotals calls
+addedTotals (c ∷ calls) = c .answer .total + addedTotals calls
 
 unfoldable pub carryAfterAll : ℕ → List Call → ℕ
 carryAfterAll carry [] = carry
@@ -114,8 +103,8 @@ IsWhole common start (c ∷ calls) whole =
 -- "the joined figures, added counts, added totals and last carry are exactly those of one call for the whole period"
 pub record SameAsWhole (start : ℕ) (calls : List Call) (whole : Call) : Type 0 where
   pub figuresJoin : joinedFigures calls ≡ figuresOf whole
-  pub countsAdd : addedCounts calls ≡ countOf (whole .answer)
-  pub totalsAdd : addedTotals calls ≡ totalOf (whole .answer)
+  pub countsAdd : addedCounts calls ≡ whole .answer .count
+  pub totalsAdd : addedTotals calls ≡ whole .answer .total
   pub lastCarryIs : carryAfterAll start calls ≡ carryAfter start (whole .answer)
 
 -- A run.
@@ -150,7 +139,7 @@ pub record NothingJoined (start : ℕ) (calls : List Call) : Type 0 where
 
 -- "every call's answer and figures are those that document 01 defines"
 pub record AsDefined (c : Call) : Type 0 where
-  pub answerIs : c .answer ≡ expansion (c .given)
+  pub answerIs : c .answer ≡ reported (expansion (c .given))
   pub figuresAre : figuresOf c ≡ onPass (expandCheck (c .given)) (series (c .given)) []
 
 -- what is claimed of a list of calls
@@ -168,15 +157,11 @@ pub record JoinedCalls (common : Common) (start : ℕ) (calls : List Call) : Typ
 
 -- A piece.
 
--- "A piece is a call for one or more successive days of an accepted whole": 1 + more of them, after the first `before`. Its carry is
--- any in range, so also the one that is handed on.
+-- "A piece is a call for one or more successive days of an accepted whole", "all else but the output the same". Its carry is any in
+-- range, so also the one that is handed on.
 pub record Piece (whole piece : Request) : Type 0 where
-  pub before : ℕ
-  pub more : ℕ
-  pub inside : before + more < daysIn whole
+  pub days : PieceOfPeriod (whole .first) (whole .last) (piece .first) (piece .last)
   pub same : commonOf piece ≡ commonOf whole
-  pub begins : dateOf (piece .first) ≡ daysLater before (dateOf (whole .first))
-  pub ends : dateOf (piece .last) ≡ daysLater (before + more) (dateOf (whole .first))
   pub carryInRange : piece .carry < 40_000
 
 -- "it passes every question but 12, and 12 where its own output is long enough"
@@ -187,5 +172,7 @@ pub record OutputAlone (piece : Request) : Type 0 where
 -- The theorem. Proved in proofs/SuccessiveCalls.antt.
 unfoldable pub SuccessiveCalls : Type 0
 SuccessiveCalls =
-    ((common : Common) (start : ℕ) (calls : List Call) → start < 40_000 → Each ByContract calls → Successive common start (accepted calls) → JoinedCalls common start calls)
+    ((common : Common) (start : ℕ) (calls : List Call) →
+    start < 40_000 → Each ByContract calls → Successive common start (accepted calls) → JoinedCalls common start calls)
     × ((whole : Call) (piece : Request) → ByContract whole → isAccepted (whole .answer) ≡ true → Piece (whole .given) piece → OutputAlone piece)
+    × ExpandReports
