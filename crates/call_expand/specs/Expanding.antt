@@ -6,17 +6,17 @@ use Prim.Native.Nat.{ℕ}
 use lib.ListN.{length}
 use Rattle.lists.specs.Lists.{sum}
 use Rattle.refusal.specs.declared.Verdict.{Verdict}
-use Rattle.refusal.specs.Questions.{_then_, lentAfter}
+use Rattle.refusal.specs.Questions.{_then_, roomQuestion, lentAfter}
 use Rattle.carry.specs.declared.Totals.{Totals}
 use Rattle.carry.specs.Carry.{lastCarry}
 use Rattle.carry.specs.Energy.{powers}
-use Rattle.call_request.specs.Request.{Request, quarters, series, requestCheck, outputQuestion}
+use Rattle.call_request.specs.Request.{Request, quarters, series, requestCheck}
 use Rattle.call_expansion.specs.declared.Expansion.{Expansion}
-use Rattle.call_expansion.specs.Answered.{answered}
+use Rattle.call_expansion.specs.Answered.{answered, reported}
 
 -- questions 1 to 12
 unfoldable pub expandCheck : Request → Verdict
-expandCheck q = requestCheck q then outputQuestion q
+expandCheck q = requestCheck q then roomQuestion (length (series q)) (length (q .output))
 
 -- "The answer holds the count, the total in Wh (the sum of the figures) and the last carry"
 abbrev pub totals : Request → Totals
@@ -34,7 +34,8 @@ expansion q = answered (expandCheck q) (totals q)
 unfoldable pub outputAfter : Request → List ℕ
 outputAfter q = lentAfter (expandCheck q) (series q) (q .output)
 
--- the contract of expanding: what it answered, and its output afterwards
+-- the contract of expanding: what it answered, also in document 01's figures, and its output afterwards
 pub record Expands (q : Request) (answer : Expansion) (after : List ℕ) : Type 0 where
   pub answers : answer ≡ expansion q
+  pub reports : reported answer ≡ reported (expansion q)
   pub leaves : after ≡ outputAfter q

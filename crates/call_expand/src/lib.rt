@@ -1,8 +1,7 @@
 // Expanding (document 01, "Series and carry" and questions 1 to 12): a period's series in the lent output.
 // The file is checked once, nothing is allocated, and nothing is copied but the group's values and one day's powers.
 use call_expansion::Expansion;
-use file_group::Found;
-use refusal::Refusal;
+use call_open::Opened;
 use refusal::Verdict;
 ghost use Rattle.call_request.specs.Request.{request};
 ghost use Rattle.call_expand.specs.Expanding.{Expands};
@@ -21,25 +20,24 @@ pub fn expand(
 ) -> Expansion
     ensures { λ r. ⌜ Expands (request (now (file .entry)) group first last (now (holidays .entry)) yearly carry (now (out .entry))) r (now (out .exit)) ⌝ }
 {
-    let v = file_check::check_file(file);
-    let Verdict::Pass = v else {
-        return Expansion::Refused(v);
+    let opening = match call_open::open(file, group, first, last, holidays, yearly, carry) {
+        Opened::Request(opening) => opening,
+        Opened::Refused(refusal) => return Expansion::Refused(refusal),
     };
-    let Found::At(at) = file_group::find(file, group) else {
-        return Expansion::Refused(Verdict::Refused(Refusal::NoGroup(0)));
-    };
-    let v = call_request::request_questions(first, last, holidays, yearly, carry);
-    let Verdict::Pass = v else {
-        return Expansion::Refused(v);
-    };
-    let from = calendar_dates::date_of(first);
-    let days = calendar_period::days_of(from, calendar_dates::date_of(last));
-    let day = calendar_period::calendar_day(from);
-    let v = call_request::output_question(day, days, out.len());
-    let Verdict::Pass = v else {
-        return Expansion::Refused(v);
-    };
-    let values = file_read::values_at(file, at);
-    let made = series::expand_days(&values, group, day, days, holidays, yearly, carry, out);
+    let day = opening.first;
+    if let Verdict::Refused(refusal) = call_request::room_question(day, opening.days, out.len()) {
+        return Expansion::Refused(refusal);
+    }
+    let values = file_read::values_at(file, opening.at);
+    let made = series::expand_days(
+        &values,
+        group,
+        day,
+        opening.days,
+        holidays,
+        yearly,
+        carry,
+        out,
+    );
     Expansion::Expanded(made)
 }

@@ -2,7 +2,7 @@
 -- elsewhere": what expanding answers, and the figures for each case of the answer.
 use Rattle.refusal.specs.declared.Verdict.{Verdict}
 use Rattle.refusal.specs.declared.Verdict.the-variants.{Pass, Refused}
-use Rattle.refusal.specs.Questions.{number, place}
+use Rattle.refusal.specs.Questions.{refusalNumber, refusalPlace}
 use Rattle.carry.specs.declared.Totals.{Totals}
 use Rattle.call_expansion.specs.declared.Expansion.{Expansion}
 use Rattle.call_expansion.specs.declared.ExpansionReport.{ExpansionReport}
@@ -10,11 +10,11 @@ use Rattle.call_expansion.specs.declared.ExpansionReport.{ExpansionRepor
 -- the answer: the totals where every question passed, else the refusal
 abbrev pub answered : Verdict → Totals → Expansion
 answered Pass t = Expansion.Expanded t
-answered (Refused r) t = Expansion.Refused (Refused r)
+answered (Refused r) t = Expansion.Refused r
 
 -- the figures for each case of the answer: an accepted call has number and place 0; "A refusal gives number, place and zeros
 -- elsewhere"
 abbrev pub reported : Expansion → ExpansionReport
 reported (Expansion.Expanded t) =
     record { number = 0; place = 0; count = t .count; total = t .total; carry = t .carry }
-reported (Expansion.Refused v) = record { number = number v; place = place v; count = 0; total = 0; carry = 0 }
+reported (Expansion.Refused r) = record { number = refusalNumber r; place = refusalPlace r; count = 0; total = 0; carry = 0 }

@@ -1,13 +1,13 @@
 // What expanding answers (document 01, "Series and carry"), and the answer as document 01's figures.
 use carry::Totals;
-use refusal::Verdict;
+use refusal::Refusal;
 ghost use mathlib.Core.Path.{_≡_};
 ghost use Rattle.call_expansion.specs.Answered.{reported};
 
 // What expanding answers: count, total and last carry, or the refusal.
 pub enum Expansion {
     Expanded(Totals),
-    Refused(Verdict),
+    Refused(Refusal),
 }
 
 // The answer as document 01's figures: number and place, 0 when accepted, and count, total and carry, 0 when refused.
@@ -32,12 +32,12 @@ fn report_totals(t: Totals) -> ExpansionReport
     }
 }
 
-fn report_refusal(v: Verdict) -> ExpansionReport
-    ensures { λ r. ⌜ r ≡ reported (Expansion.Refused v) ⌝ }
+fn report_refusal(refusal: Refusal) -> ExpansionReport
+    ensures { λ r. ⌜ r ≡ reported (Expansion.Refused refusal) ⌝ }
 {
     ExpansionReport {
-        number: refusal::number_of(v),
-        place: refusal::place_of(v),
+        number: refusal::number_of(refusal),
+        place: refusal::place_of(refusal),
         count: 0,
         total: 0,
         carry: 0,
@@ -50,6 +50,6 @@ pub fn report(answer: Expansion) -> ExpansionReport
 {
     match answer {
         Expansion::Expanded(t) => report_totals(t),
-        Expansion::Refused(v) => report_refusal(v),
+        Expansion::Refused(refusal) => report_refusal(refusal),
     }
 }

@@ -3,8 +3,7 @@
 use mathlib.Core.List.{List}
 use Prim.Native.Nat.{ℕ}
 use lib.Dec.{leb}
-use lib.ListN.{length}
-use Rattle.refusal.specs.declared.Refusal.the-variants.{BadUse, BadCarry, ShortOutput}
+use Rattle.refusal.specs.declared.Refusal.the-variants.{BadUse, BadCarry}
 use Rattle.refusal.specs.declared.Verdict.{Verdict}
 use Rattle.refusal.specs.Questions.{ask, _then_}
 use Rattle.calendar_dates.specs.Dates.{dateOf}
@@ -75,7 +74,3 @@ fromPeriodOn first last holidays yearly carry = periodCheck first last then behi
 abbrev pub requestCheck : Request → Verdict
 requestCheck q =
     aheadOfPeriod (q .file) (q .group) then fromPeriodOn (q .first) (q .last) (q .holidays) (q .yearly) (q .carry)
-
--- 12. "Is the lent output long enough?": "place = entries needed"
-abbrev pub outputQuestion : Request → Verdict
-outputQuestion q = ask (leb (length (series q)) (length (q .output))) (ShortOutput (length (series q)))
