@@ -112,15 +112,7 @@ module _ (layout : Layout) (file : List ℕ) where
   unfolding valuesFrom
   length-values zero at = sym (zero-mul (layout .values))
   length-values (suc n) at =
-      let step : ℕ = profileLength layout in
-      let words : List ℕ = wordsFrom file (layout .values) (at + layout .before) in
-      omega (
-        arith,
-        suc-mul n (layout .values),
-        length-append words (valuesFrom layout file n (at + step)),
-        length-words file (layout .values) (at + layout .before),
-        length-values n (at + step),
-      )
+      simp (length-append, length-words, length-values n (at + profileLength layout)) (omega (arith, suc-mul n (layout .values)))
 
 module _ (file : List ℕ) (bytes : Below 256 file) where
   -- the bytes of the values that stand from `at` on
