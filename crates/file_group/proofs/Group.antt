@@ -8,9 +8,10 @@ use native.Mathlib.Nat.{suc-mul, mul-le-mul-right, zero-add}
 use lib.Dec.{eqb}
 use lib.ListN.{length, take, drop, getD, length-take, length-drop}
 use borrow.Author.Tests.{eqb-true, eq-eqb, ne-eqb}
+use Rattle.lists.proofs.Strides.{length-places, getD-places}
 use Rattle.big_endian.specs.BigEndian.{byteAt, wordAt}
 use Rattle.big_endian.specs.Inside.{wordsOf}
-use Rattle.big_endian.proofs.Words.{length-words, getD-words, words-located}
+use Rattle.big_endian.proofs.Words.{words-located}
 use Rattle.refusal.specs.declared.Refusal.the-variants.{NoGroup}
 use Rattle.refusal.specs.declared.Verdict.the-variants.{Pass, Refused}
 use Rattle.refusal.proofs.Questions.{ask-yes, ask-no, then-pass, ask-passed, then-first, then-next}
@@ -102,14 +103,14 @@ checked file group h = here (groupIn file group) refl (ask-passed _ (NoGroup 0) 
     here Nothing e t = let z : _≡_ {A = ℕ} 0 1 = cc in absurd (omega arith)
 
 pub table-length : (file : List ℕ) (group : ℕ) → length (tableOf file group) ≡ layoutOf file .values
-table-length file group = length-words file _ _
+table-length file group = length-places (wordAt file) 2 _ _
 
 -- "A value P is .. 0 to 20,000"
 pub table-bound : (file : List ℕ) (group found i d : ℕ) → Accepted file → groupIn file group ≡ At found → i < layoutOf file .values → getD (tableOf file group) i d ≤ 20_000
 table-bound file group found i d a h l =
     let layout = layoutOf file in
     let s = stands layout file group (layout .count) headerLength found h in
-    rw (h, getD-words file (layout .values) (found + layout .before) i d l, s .place) (value-bound file a (s .k) i (s .below) l)
+    rw (h, getD-places (wordAt file) 2 (layout .values) (found + layout .before) i d l, s .place) (value-bound file a (s .k) i (s .below) l)
 
 -- a part of the file that has the group's value bytes
 pub record PartOf (file : List ℕ) (group : ℕ) (part : List ℕ) : Type 0 where
@@ -143,4 +144,4 @@ module _ (file : List ℕ) (group : ℕ) (part : List ℕ) (p : PartOf file grou
 
   pub part-word : (i d : ℕ) → i < layoutOf file .values → wordAt part (i * 2) ≡ getD (tableOf file group) i d
   part-word i d l =
-      rw (← part-words, part-count) (sym (getD-words part (layoutOf file .values) 0 i d l ∙ (rw zero-add)))
+      rw (← part-words, part-count) (sym (getD-places (wordAt part) 2 (layoutOf file .values) 0 i d l ∙ (rw zero-add)))
