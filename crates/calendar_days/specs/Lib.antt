@@ -1,1 +1,2 @@
 pub mod Days
+pub mod ClockChanges

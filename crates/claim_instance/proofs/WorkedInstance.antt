@@ -6,8 +6,8 @@ use native.Mathlib.Nat.{add-zero}
 use native.Mathlib.Omega.{arith}
 use lib.ListN.{drop}
 use lib.Seq.{getD-drop, drop-drop}
-use Rattle.lists.specs.Lists.{sum, Each}
-use Rattle.big_endian.specs.BigEndian.{byteAt, wordsFrom}
+use Rattle.lists.specs.Lists.{sum, Each, eachFrom}
+use Rattle.big_endian.specs.BigEndian.{byteAt}
 use Rattle.refusal.specs.declared.Refusal.the-variants.{BadValue}
 use Rattle.refusal.specs.declared.Verdict.the-variants.{Pass}
 use Rattle.refusal.specs.declared.Verdict.{Verdict}
@@ -63,7 +63,7 @@ by-contract : (q : Request) → ByContract (callFor q)
 by-contract q = record { answers = refl; leaves = refl }
 
 pub worked-instance : WorkedInstance
-unfolding ask _then_ askEach layoutOf findAmong wordsFrom X F Q leapDays monthLength isDate daysOfMonths dayOfYear daysOfYears dayNumber weekdayOf nextDay season listed dayTypeWhen lastSunday clock positions dateQuestion holidaysQuestion daysOf periodQuestion dayValues dayQuarters quartersOfDays series figures lastCarry sum useQuestion carryQuestion accepted Successive SuccessiveCalls
+unfolding ask _then_ askEach layoutOf findAmong eachFrom X F Q leapDays monthLength isDate daysOfMonths dayOfYear daysOfYears dayNumber weekdayOf nextDay season listed dayTypeWhen lastSunday clock positions dateQuestion holidaysQuestion daysOf periodQuestion dayValues dayQuarters quartersOfDays series figures lastCarry sum useQuestion carryQuestion accepted Successive SuccessiveCalls
 worked-instance =
     let first = passed-file saturday passes in
     let refused = passed-file between passes in

@@ -4,7 +4,8 @@
 use mathlib.Core.Path.{refl, _∙_}
 use Rattle.calendar_dates.specs.Dates.{leapDays, monthLength, daysOfMonths, dayOfYear, daysOfYears, dayNumber, weekdayOf, nextDay}
 use Rattle.calendar_holidays.specs.Holidays.{listed}
-use Rattle.calendar_days.specs.Days.{season, dayTypeWhen, lastSunday, clock, positions}
+use Rattle.calendar_days.specs.Days.{season, dayTypeWhen, lastSunday, clock}
+use Rattle.calendar_days.proofs.ClockChanges.{clock-changes}
 use Rattle.calendar_period.specs.Period.{valuesOfDays}
 use Rattle.dynamisation.specs.Dynamisation.{householdX, X, F, Q}
 use Rattle.carry.specs.Carry.{figures, lastCarry}
@@ -12,7 +13,7 @@ use Rattle.series.proofs.Series.{length-quarters}
 use Rattle.claim_marked.specs.MarkedFigures.{MarkedFigures}
 
 pub marked-figures : MarkedFigures
-unfolding householdX X F Q leapDays monthLength daysOfMonths dayOfYear daysOfYears dayNumber weekdayOf nextDay season listed dayTypeWhen lastSunday clock positions valuesOfDays figures lastCarry
+unfolding householdX X F Q leapDays monthLength daysOfMonths dayOfYear daysOfYears dayNumber weekdayOf nextDay season listed dayTypeWhen lastSunday clock valuesOfDays figures lastCarry
 marked-figures =
     record {
       t-1 = record { exact = refl; rounded = refl };
@@ -38,8 +39,7 @@ marked-figures =
       seriesForward = λ values group holidays h. length-quarters values group holidays 1 _ h ∙ refl;
       seriesBack = λ values group holidays h. length-quarters values group holidays 1 _ h ∙ refl;
       series-2000 = λ values group holidays h. length-quarters values group holidays 366 _ h ∙ refl;
-      octoberOrder = refl;
-      marchOrder = refl;
+      clockChanges = clock-changes;
       carryStep = refl;
       carryLeft = refl;
     }

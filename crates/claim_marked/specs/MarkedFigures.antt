@@ -1,14 +1,14 @@
 -- Document 01, "Marked days and figures", in its order. Proved in proofs/MarkedFigures.antt.
 use mathlib.Core.Path.{_≡_}
-use mathlib.Core.List.{List, [], _∷_, _++_}
-use Prim.Native.Nat.{ℕ, zero, suc}
+use mathlib.Core.List.{List, [], _∷_}
+use Prim.Native.Nat.{ℕ}
 use lib.IntN.{pos}
-use lib.ListN.{length, drop}
+use lib.ListN.{length}
 use Rattle.calendar_dates.specs.Dates.{dateOf, dayOfYear, weekdayOf}
 use Rattle.calendar_days.specs.declared.Season.{Season}
 use Rattle.calendar_days.specs.declared.DayType.{DayType}
-use Rattle.calendar_days.specs.declared.Clock.the-variants.{Forward, Back}
-use Rattle.calendar_days.specs.Days.{season, dayType, positions, valueCount}
+use Rattle.calendar_days.specs.Days.{season, dayType, valueCount}
+use Rattle.calendar_days.specs.ClockChanges.{ClockChanges}
 use Rattle.calendar_period.specs.Period.{valuesOfDays}
 use Rattle.dynamisation.specs.Dynamisation.{X, F, Q}
 use Rattle.carry.specs.Carry.{figures, lastCarry}
@@ -29,11 +29,6 @@ pub record DayIs (date weekday : ℕ) (s : Season) (d : DayType) : Type 0 where
   pub isWeekday : weekdayOf (dateOf date) ≡ weekday
   pub isSeason : season (dateOf date) ≡ s
   pub isDayType : dayType (dateOf date) [] ≡ d
-
--- 0, 1, 2, .. below n
-abbrev pub upTo : ℕ → List ℕ
-upTo zero = []
-upTo (suc n) = upTo n ++ (n ∷ [])
 
 -- how many quarter hours the series of some days from a date on has, whatever the group, its 864 values and the list
 abbrev pub SeriesHas : ℕ → ℕ → ℕ → Type 0
@@ -70,9 +65,8 @@ pub record MarkedFigures : Type 0 where
   pub seriesForward : SeriesHas 1 20000326 92
   pub seriesBack : SeriesHas 1 20001029 100
   pub series-2000 : SeriesHas 366 20000101 35_136
-  -- "repeats positions 8 to 11 directly after position 11", of a day whose positions are numbered
-  pub octoberOrder : positions Back (upTo 96) ≡ upTo 12 ++ (8 ∷ 9 ∷ 10 ∷ 11 ∷ drop 12 (upTo 96))
-  pub marchOrder : positions Forward (upTo 96) ≡ upTo 8 ++ drop 12 (upTo 96)
+  -- beyond that list: which positions these two days have, and in which order
+  pub clockChanges : ClockChanges
   -- "Q = 1001, A = 1000, carry 39,999: 26 Wh, carry 999."
   pub carryStep : figures 1_000 (1_001 ∷ []) 39_999 ≡ 26 ∷ []
   pub carryLeft : lastCarry 1_000 (1_001 ∷ []) 39_999 ≡ 999

@@ -1,1 +1,2 @@
 pub mod Comparing
+pub mod Same

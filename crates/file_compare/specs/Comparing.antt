@@ -1,4 +1,5 @@
--- Document 01, "The profile file": what comparing answers, accepted and refused.
+-- Document 01, "The profile file": what comparing answers, accepted and refused. The theorems are proved in proofs/Same.antt.
+use mathlib.Core.Path.{_≡_}
 use mathlib.Core.Bool.{Bool, true, false, cond, _&&_}
 use mathlib.Core.List.{List, [], _∷_}
 use Prim.Native.Nat.{ℕ}
@@ -30,6 +31,17 @@ comparison file first second =
     compared : Verdict → Bool → Comparison
     compared Pass alike = cond alike Alike Different
     compared (Refused r) alike = Comparison.Refused r
+
+-- "exactly when all 864 values agree": lists that are the same are equal, and equal ones the same
+unfoldable pub SameIsEqual : Type 0
+SameIsEqual = (a b : List ℕ) → (same a b ≡ true → a ≡ b) × (a ≡ b → same a b ≡ true)
+
+-- and so an accepted comparing answers alike exactly when the two groups have equal tables
+unfoldable pub AlikeIsEqual : Type 0
+AlikeIsEqual =
+    (file : List ℕ) (first second : ℕ) → compareCheck file first second ≡ Pass →
+    (comparison file first second ≡ Alike → tableOf file first ≡ tableOf file second)
+    × (tableOf file first ≡ tableOf file second → comparison file first second ≡ Alike)
 
 -- the figures for each case of the answer; 1 for alike is our choice
 abbrev pub reportedComparison : Comparison → ComparisonReport

@@ -8,9 +8,10 @@ use native.Mathlib.Nat.{suc-mul, mul-le-mul-right, zero-add}
 use lib.Dec.{eqb}
 use lib.ListN.{length, take, drop, getD, length-take, length-drop}
 use borrow.Author.Tests.{eqb-true, eq-eqb, ne-eqb, ltb-true, lt-ltb, le-ltb}
+use Rattle.lists.proofs.Strides.{length-places, getD-places}
 use Rattle.big_endian.specs.BigEndian.{byteAt, wordAt}
 use Rattle.big_endian.specs.Inside.{wordsOf}
-use Rattle.big_endian.proofs.Words.{length-words, getD-words, words-located}
+use Rattle.big_endian.proofs.Words.{words-located}
 use Rattle.refusal.specs.declared.Refusal.{Refusal}
 use Rattle.refusal.specs.declared.Refusal.the-variants.{NoGroup}
 use Rattle.refusal.specs.declared.Verdict.{Verdict}
@@ -125,14 +126,14 @@ check-passed file group h =
     checked file group 0 (then-first (fileCheck file) _ h) (then-next (fileCheck file) _ h)
 
 pub table-length : (file : List ℕ) (group : ℕ) → length (tableOf file group) ≡ layoutOf file .values
-table-length file group = length-words file _ _
+table-length file group = length-places (wordAt file) 2 _ _
 
 -- "A value P is .. 0 to 20,000"
 pub table-bound : (file : List ℕ) (group i d : ℕ) → Checked file group → i < layoutOf file .values → getD (tableOf file group) i d ≤ 20_000
 table-bound file group i d c l =
     let layout = layoutOf file in
     let s = c .stands in
-    rw (getD-words file (layout .values) (groupOffset file group + layout .before) i d l, s .place)
+    rw (getD-places (wordAt file) 2 (layout .values) (groupOffset file group + layout .before) i d l, s .place)
     (value-bound file (accepted file (c .passed)) (s .k) i (s .below) l)
 
 -- "it passed, so it was found": a group whose code stands at `at`, and what its callers need of it

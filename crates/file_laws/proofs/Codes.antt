@@ -16,8 +16,7 @@ use Rattle.refusal.proofs.Questions.{ask-passed, then-first, then-next, both}
 use Rattle.file_layout.specs.declared.Layout.{Layout}
 use Rattle.file_layout.specs.Header.{headerLength, profileLength}
 use Rattle.file_check.specs.Check.{codeQuestion}
-use Rattle.file_group.specs.declared.Found.the-variants.{At}
-use Rattle.file_group.specs.Group.{findAmong}
+use Rattle.file_group.specs.Group.{offsetAmong}
 
 -- either part of a question is so
 second : (a b : Bool) → a ≡ false → (a || b) ≡ true → b ≡ true
@@ -57,8 +56,8 @@ module _ (layout : Layout) (file : List ℕ) (forward : 0 < profileLength layout
 
   -- a group is found where its code stands
   pub finds : (n at i : ℕ) → headerLength ≤ at → askEach (codeQuestion layout file) (profileLength layout) n at ≡ Pass → i < n →
-      findAmong layout file (byteAt file (at + i * profileLength layout)) n at ≡ At (at + i * profileLength layout)
-  unfolding askEach findAmong
+      offsetAmong layout file (byteAt file (at + i * profileLength layout)) n at ≡ at + i * profileLength layout
+  unfolding askEach offsetAmong
   finds zero at i h p l = absurd (omega arith)
   finds (suc n) at zero h p l =
       let here : at + zero * profileLength layout ≡ at = omega arith in

@@ -10,21 +10,21 @@ use native.Mathlib.Numerals.{add-one}
 use lib.ListN.{length, drop, getD, length-append, drop-of-length-le}
 use lib.Seq.{drop-cons, take-at, drop-at, ext-getD}
 use borrow.Author.Tests.{le-leb, eq-eqb}
+use Rattle.lists.specs.Lists.{eachFrom}
+use Rattle.lists.proofs.Strides.{length-places, getD-places}
 use Rattle.big_endian.specs.BigEndian.{byteAt, wordAt, wordsFrom, bytesOf}
-use Rattle.big_endian.proofs.Words.{length-words}
-use Rattle.refusal.specs.declared.Refusal.the-variants.{NoMark, WrongVersion, WrongLength, NoGroup, ShortOutput}
+use Rattle.refusal.specs.declared.Refusal.the-variants.{NoMark, WrongVersion, WrongLength}
 use Rattle.refusal.specs.declared.Verdict.the-variants.{Pass}
-use Rattle.refusal.proofs.Questions.{ask-yes, then-pass}
+use Rattle.refusal.proofs.Questions.{ask-yes, then-pass, room-enough}
 use Rattle.file_layout.specs.declared.Layout.{Layout}
 use Rattle.file_layout.specs.Header.{layoutOf, profileLength, markQuestion, versionQuestion, lengthQuestion, headerCheck}
 use Rattle.file_check.specs.Check.{fileCheck}
 use Rattle.file_check.proofs.Check.{Accepted, accepted}
-use Rattle.file_group.specs.declared.Found.the-variants.{At}
-use Rattle.file_group.specs.declared.Found.{Found}
-use Rattle.file_group.specs.Group.{groupIn, isFound, groupQuestion, valuesAt}
+use Rattle.file_group.specs.Group.{groupOffset}
+use Rattle.file_group.proofs.Group.{group-there}
 use Rattle.file_written.specs.Written.{profilesOf, written}
 use Rattle.file_written.proofs.Written.{length-written, code-at, values-at}
-use Rattle.file_write_check.specs.WriteCheck.{roomQuestion, writeCheck}
+use Rattle.file_write_check.specs.WriteCheck.{writeCheck}
 use Rattle.file_write_check.proofs.Passed.{Amounts, amount-passes, Writable, writable}
 use Rattle.file_laws.specs.RoundTrip.{Below, codesFrom, valuesFrom, codesOf, valuesOf, WrittenReadsBack, AcceptedIsRewritten}
 use Rattle.file_laws.proofs.Codes.{finds}
@@ -60,48 +60,32 @@ module _ (codes values : List ℕ) (room : ℕ) (w : Writable codes values room)
   unfolding fileCheck
   file-passes = then-pass _ (header-passes codes values (w .amount)) ∙ then-pass _ (w .codesPass) ∙ w .valuesPass
 
-  found : (i : ℕ) → i < length codes → groupIn (written codes values) (getD codes i 0) ≡ At (6 + i * 1729)
+  found : (i : ℕ) → i < length codes → groupOffset (written codes values) (getD codes i 0) ≡ 6 + i * 1729
   unfolding layoutOf
   found i h =
       let file : List ℕ = written codes values in
-      ap (λ (group : ℕ). groupIn file group) (sym (code-at codes values (w .amount .each) i h))
+      ap (λ (group : ℕ). groupOffset file group) (sym (code-at codes values (w .amount .each) i h))
       ∙ finds (layoutOf file) file (omega arith) (byteAt file 5) 6 i (omega arith) (w .codesPass) (rw (count-written codes values) h)
-
--- the codes of a file's contents, one by one
-length-codes : (layout : Layout) (file : List ℕ) (n at : ℕ) → length (codesFrom layout file n at) ≡ n
-unfolding codesFrom
-length-codes layout file zero at = refl
-length-codes layout file (suc n) at = ap suc (length-codes layout file n (at + profileLength layout))
-
-code-of : (layout : Layout) (file : List ℕ) (n at i : ℕ) → i < n → getD (codesFrom layout file n at) i 0 ≡ byteAt file (at + i * profileLength layout)
-unfolding codesFrom
-code-of layout file zero at i h = absurd (omega arith)
-code-of layout file (suc n) at zero h =
-    let here : at ≡ at + zero * profileLength layout = omega arith in
-    ap (byteAt file) here
-code-of layout file (suc n) at (suc i) h =
-    let step : ℕ = profileLength layout in
-    let there : at + step + i * step ≡ at + suc i * step = omega (arith, suc-mul i step) in
-    code-of layout file n (at + step) i (omega arith) ∙ ap (byteAt file) there
 
 codes-back : (codes values : List ℕ) → Amounts codes values → codesOf (written codes values) ≡ codes
 unfolding layoutOf
 codes-back codes values a =
     let file : List ℕ = written codes values in
-    let all : length (codesOf file) ≡ length codes = length-codes (layoutOf file) file (byteAt file 5) 6 ∙ count-written codes values in
+    let all : length (codesOf file) ≡ length codes = length-places (byteAt file) _ (byteAt file 5) 6 ∙ count-written codes values in
     ext-getD 0 (codesOf file) codes all
-    (λ i h. code-of (layoutOf file) file (byteAt file 5) 6 i (omega (arith, count-written codes values)) ∙ code-at codes values (a .each) i (omega arith))
+    (λ i h. getD-places (byteAt file) _ (byteAt file 5) 6 i 0 (omega (arith, count-written codes values)) ∙ code-at codes values (a .each) i (omega arith))
 
 pub written-reads-back : WrittenReadsBack
-unfolding WrittenReadsBack groupQuestion layoutOf
+unfolding WrittenReadsBack layoutOf
 written-reads-back codes values room pass =
     let w = writable codes values room pass in (
       codes-back codes values (w .amount),
       λ i h.
-          let at = found codes values room w i h in (
-            then-pass _ (file-passes codes values room w) ∙ ask-yes (NoGroup 0) (ap isFound at),
-            ap (λ (f : Found). wordsFrom (written codes values) (layoutOf (written codes values) .values) (valuesAt (layoutOf (written codes values)) f)) at
-                ∙ values-at codes values (w .amount .each) i h,
+          let at = found codes values room w i h in
+          let inside : groupOffset (written codes values) (getD codes i 0) < length (written codes values) =
+              omega (arith, at, length-written codes values (w .amount .each)) in (
+            then-pass _ (file-passes codes values room w) ∙ group-there (written codes values) (getD codes i 0) 0 inside,
+            ap (λ (offset : ℕ). wordsFrom (written codes values) 864 (offset + 1)) at ∙ values-at codes values (w .amount .each) i h,
           ),
     )
 
@@ -112,20 +96,12 @@ module _ (layout : Layout) (file : List ℕ) where
   unfolding valuesFrom
   length-values zero at = sym (zero-mul (layout .values))
   length-values (suc n) at =
-      let step : ℕ = profileLength layout in
-      let words : List ℕ = wordsFrom file (layout .values) (at + layout .before) in
-      omega (
-        arith,
-        suc-mul n (layout .values),
-        length-append words (valuesFrom layout file n (at + step)),
-        length-words file (layout .values) (at + layout .before),
-        length-values n (at + step),
-      )
+      simp (length-append, length-places, length-values n (at + profileLength layout)) (omega (arith, suc-mul n (layout .values)))
 
 module _ (file : List ℕ) (bytes : Below 256 file) where
   -- the bytes of the values that stand from `at` on
   bytes-back : (n at : ℕ) → at + n * 2 ≤ length file → bytesOf (wordsFrom file n at) ++ drop (at + n * 2) file ≡ drop at file
-  unfolding bytesOf wordsFrom
+  unfolding bytesOf eachFrom
   bytes-back zero at h = let here : at + zero * 2 ≡ at = omega arith in rw here
   bytes-back (suc n) at h =
       let high : wordAt file at / 256 ≡ byteAt file at = omega (arith, bytes (at + 1) (omega arith)) in
@@ -137,7 +113,7 @@ module _ (file : List ℕ) (bytes : Below 256 file) where
   -- the profiles of the contents that stand from `at` on, up to the file's end
   profiles-back : (layout : Layout) → layout .before ≡ 1 → (n at : ℕ) → at + n * profileLength layout ≡ length file →
       profilesOf (layout .values) (codesFrom layout file n at) (valuesFrom layout file n at) ≡ drop at file
-  unfolding profilesOf codesFrom valuesFrom
+  unfolding profilesOf eachFrom valuesFrom
   profiles-back layout one zero at e =
       let past : length file ≤ at = omega (arith, zero-mul (profileLength layout)) in
       sym (drop-of-length-le file past)
@@ -145,7 +121,7 @@ module _ (file : List ℕ) (bytes : Below 256 file) where
       let step : ℕ = profileLength layout in
       let own : List ℕ = wordsFrom file (layout .values) (at + layout .before) in
       let others : List ℕ = valuesFrom layout file n (at + step) in
-      let full : length own ≡ layout .values = length-words file (layout .values) (at + layout .before) in
+      let full : length own ≡ layout .values = length-places (wordAt file) 2 (layout .values) (at + layout .before) in
       let strides : suc n * step ≡ n * step + step = suc-mul n step in
       let there : at + step ≡ at + layout .before + layout .values * 2 = omega arith in
       let values-here : at + layout .before ≡ suc at = omega arith in
@@ -173,13 +149,13 @@ module _ (file : List ℕ) (bytes : Below 256 file) where
   rewritten a =
       let high : byteAt file 3 ≡ 0 = omega (arith, a .headed .version, bytes 4 (omega (arith, a .headed .header))) in
       let low : byteAt file 4 ≡ 1 = omega (arith, a .headed .version) in
-      rw (length-codes (layoutOf file) file (byteAt file 5) 6, profiles-back (layoutOf file) refl (byteAt file 5) 6 (sym (a .headed .laid .whole)))
+      rw (length-places (byteAt file) _ (byteAt file 5) 6, profiles-back (layoutOf file) refl (byteAt file 5) 6 (sym (a .headed .laid .whole)))
       (rw (a .headed .letter0, a .headed .letter1, a .headed .letter2, high, low) at (headed (a .headed .header)))
 
   amounts-of : Accepted file → Amounts (codesOf file) (valuesOf file)
   unfolding layoutOf
   amounts-of a =
-      let count : length (codesOf file) ≡ byteAt file 5 = length-codes (layoutOf file) file (byteAt file 5) 6 in
+      let count : length (codesOf file) ≡ byteAt file 5 = length-places (byteAt file) _ (byteAt file 5) 6 in
       record {
         some = rw count (a .headed .some);
         most = rw count (a .headed .most);
@@ -187,7 +163,7 @@ module _ (file : List ℕ) (bytes : Below 256 file) where
       }
 
 pub accepted-is-rewritten : AcceptedIsRewritten
-unfolding AcceptedIsRewritten writeCheck roomQuestion
+unfolding AcceptedIsRewritten writeCheck
 accepted-is-rewritten file bytes pass room long =
     let a = accepted file pass in
     let same : written (codesOf file) (valuesOf file) ≡ file = rewritten file bytes a in (
@@ -195,6 +171,6 @@ accepted-is-rewritten file bytes pass room long =
           (then-pass _ (amount-passes (codesOf file) (valuesOf file) (amounts-of file bytes a))
           ∙ then-pass _ (a .codes)
           ∙ then-pass _ (a .values)
-          ∙ ask-yes (ShortOutput (length file)) (le-leb (length file) room (omega arith))),
+          ∙ room-enough (length file) room (omega arith)),
       same,
     )

@@ -1,9 +1,10 @@
 -- Demand 2: "A profile file that we write reads back to the same tables, and an accepted file is rewritten to the same bytes."
 -- Proved in proofs/RoundTrip.antt.
 use mathlib.Core.Path.{_≡_}
-use mathlib.Core.List.{List, [], _∷_, _++_}
+use mathlib.Core.List.{List, [], _++_}
 use Prim.Native.Nat.{ℕ, zero, suc, _+_, _*_, _≤_, _<_}
 use lib.ListN.{length, take, drop, getD}
+use Rattle.lists.specs.Lists.{eachFrom}
 use Rattle.big_endian.specs.BigEndian.{byteAt, wordsFrom}
 use Rattle.refusal.specs.declared.Verdict.the-variants.{Pass}
 use Rattle.file_layout.specs.declared.Layout.{Layout}
@@ -18,9 +19,8 @@ abbrev pub Below : ℕ → List ℕ → Type 0
 Below limit xs = (i : ℕ) → i < length xs → getD xs i 0 < limit
 
 -- a file's contents: the codes and the values of n profiles from `at` on, and of all
-unfoldable pub codesFrom : Layout → List ℕ → ℕ → ℕ → List ℕ
-codesFrom layout file zero at = []
-codesFrom layout file (suc n) at = byteAt file at ∷ codesFrom layout file n (at + profileLength layout)
+abbrev pub codesFrom : Layout → List ℕ → ℕ → ℕ → List ℕ
+codesFrom layout file n at = eachFrom (byteAt file) (profileLength layout) n at
 
 unfoldable pub valuesFrom : Layout → List ℕ → ℕ → ℕ → List ℕ
 valuesFrom layout file zero at = []

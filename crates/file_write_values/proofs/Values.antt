@@ -1,11 +1,12 @@
 -- Writing's question 5, asked of the lent values, is that of the file to be written. Assumes nothing.
 use mathlib.Core.Path.{_≡_, refl, sym, _∙_, ap}
 use mathlib.Core.List.{List}
-use Prim.Native.Nat.{ℕ, zero, suc, _+_, _*_, _<_}
+use Prim.Native.Nat.{ℕ, _+_, _*_, _<_}
 use native.Mathlib.Omega.{arith}
 use lib.Dec.{leb}
 use lib.ListN.{length, take, drop, getD, length-drop}
 use lib.Seq.{length-take-le}
+use Rattle.lists.proofs.Strides.{getD-places}
 use Rattle.big_endian.specs.BigEndian.{wordAt, wordsFrom, bytesOf}
 use Rattle.refusal.specs.declared.Refusal.the-variants.{BadValue}
 use Rattle.refusal.specs.declared.Verdict.{Verdict}
@@ -15,15 +16,6 @@ use Rattle.file_values.specs.Values.{valueQuestion, profileValuesQuestion, valu
 use Rattle.file_written.specs.Written.{written}
 use Rattle.file_written.proofs.Written.{values-at}
 
--- value i of those that stand from `at` on
-word-of : (file : List ℕ) (n at i : ℕ) → i < n → getD (wordsFrom file n at) i 0 ≡ wordAt file (at + i * 2)
-unfolding wordsFrom
-word-of file zero at i h = absurd (omega arith)
-word-of file (suc n) at zero h = let here : at ≡ at + zero * 2 = omega arith in ap (λ (k : ℕ). wordAt file k) here
-word-of file (suc n) at (suc i) h =
-    let there : at + 2 + i * 2 ≡ at + suc i * 2 = omega arith in
-    word-of file n (at + 2) i (omega arith) ∙ ap (λ (k : ℕ). wordAt file k) there
-
 -- question 5 of value i of a profile
 pub value-asked : (file values : List ℕ) (first : ℕ) → wordsFrom file (length values) first ≡ values → (i : ℕ) →
     i < length values → (at : ℕ) → at ≡ first + i * 2 →
@@ -31,7 +23,7 @@ pub value-asked : (file values : List ℕ) (first : ℕ) → wordsFrom file (len
 unfolding valueQuestion
 value-asked file values first stand i h at e =
     let own : getD values i 0 ≡ wordAt file at =
-    ap (λ (l : List ℕ). getD l i 0) (sym stand) ∙ word-of file (length values) first i h ∙ ap (λ (k : ℕ). wordAt file k) (sym e) in
+    ap (λ (l : List ℕ). getD l i 0) (sym stand) ∙ getD-places (wordAt file) 2 (length values) first i 0 h ∙ ap (λ (k : ℕ). wordAt file k) (sym e) in
     rw own
 
 -- the reader's question 5 of the file to be written, of the profile at one offset

@@ -9,6 +9,7 @@ use native.Mathlib.Omega.{arith}
 use native.Mathlib.Numerals.{one-add}
 use lib.ListN.{length, take, drop, getD, length-append, length-drop}
 use lib.Seq.{drop-cons, getD-drop, drop-drop, drop-at, length-take-le}
+use Rattle.lists.specs.Lists.{eachFrom}
 use Rattle.big_endian.specs.BigEndian.{byteAt, wordAt, wordsFrom, bytesOf}
 use Rattle.file_written.specs.Written.{profilesOf, written}
 
@@ -33,7 +34,7 @@ length-bytes (v ∷ values) = omega (arith, length-bytes values)
 -- values that were written are read back
 pub words-back : (file values rest : List ℕ) (at : ℕ) → drop at file ≡ bytesOf values ++ rest →
     wordsFrom file (length values) at ≡ values
-unfolding bytesOf wordsFrom
+unfolding bytesOf eachFrom
 words-back file [] rest at e = refl
 words-back file (v ∷ values) rest at e =
     let high : byteAt file at ≡ v / 256 = byte-here file at e in

@@ -1,6 +1,6 @@
--- Lists: their sum, and a property of every member.
+-- Lists: their sum, a property of every member, and lists made of what stands at places one stride apart.
 use mathlib.Core.List.{List, [], _∷_}
-use Prim.Native.Nat.{ℕ, _+_}
+use Prim.Native.Nat.{ℕ, zero, suc, _+_}
 
 -- "the total in Wh (the sum of the figures)"
 unfoldable pub sum : List ℕ → ℕ
@@ -11,3 +11,8 @@ sum (x ∷ xs) = x + sum xs
 abbrev pub Each : {A : Type 0} → (A → Type 0) → List A → Type 0
 Each property [] = Unit {0}
 Each property (x ∷ xs) = property x × Each property xs
+
+-- f at n places: at `at`, `at + step`, `at + step + step` and so on
+unfoldable pub eachFrom : {A : Type 0} → (ℕ → A) → ℕ → ℕ → ℕ → List A
+eachFrom f step zero at = []
+eachFrom f step (suc n) at = f at ∷ eachFrom f step n (at + step)

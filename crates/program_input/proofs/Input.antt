@@ -8,8 +8,8 @@ use native.Mathlib.Omega.{arith}
 use lib.ListN.{length, take, length-take}
 use lib.Seq.{getD-take, take-all}
 use borrow.Author.Tests.{leb-true, le-ltb}
-use Rattle.big_endian.specs.BigEndian.{longsFrom}
-use Rattle.big_endian.proofs.Longs.{take-longs}
+use Rattle.lists.proofs.Strides.{take-places}
+use Rattle.big_endian.specs.BigEndian.{longAt, longsFrom}
 use Rattle.refusal.specs.declared.Verdict.the-variants.{Pass, Refused}
 use Rattle.refusal.specs.declared.Refusal.the-variants.{BadInput, BadHoliday}
 use Rattle.refusal.specs.Questions.{_then_, askEach}
@@ -63,7 +63,7 @@ module _ (holidays : List ℕ) where
 
 -- the entries that the table holds are the list's first 401, and all of an accepted list
 pub asked-list : (input : List ℕ) → longsFrom input (askedEntries (listLength input)) headLength ≡ take 401 (requestIn input .holidays)
-asked-list input = take-longs input 401 (listLength input) headLength
+asked-list input = take-places (longAt input) 4 401 (listLength input) headLength
 
 pub whole-list : (input : List ℕ) → holidaysQuestion (requestIn input .holidays) ≡ Pass → longsFrom input (askedEntries (listLength input)) headLength ≡ requestIn input .holidays
 whole-list input h =

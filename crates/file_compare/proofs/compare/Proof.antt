@@ -85,7 +85,7 @@ by : (c : tie.After-same-values) (alike : Bool) →
     cond alike Alike Different ≡ comparison (start (of-first (of-second c)) .args .file .now) (start (of-first (of-second c)) .args .first) (start (of-first (of-second c)) .args .second)
 by c alike e =
     let found = of-second c in
-    compared _ _ _ (both-pass found) _ _
+    compared _ _ _ (both-pass found) (c .before .before .values-of .result .now) (c .before .values-of2 .result .now)
     (part-words _ _ (first (of-first found)) (c .before .before .values-of .ensures .bytes))
     (part-words _ _ (second found) (c .before .values-of2 .ensures .bytes)) alike e
 

@@ -6,8 +6,8 @@ use native.Mathlib.Omega.{arith}
 use native.Mathlib.Numerals.{add-one}
 use lib.ListN.{length, length-set}
 use lib.Seq.{sets}
-use Rattle.big_endian.specs.BigEndian.{wordsFrom}
-use Rattle.big_endian.proofs.Words.{words-next, words-end, stored-words}
+use Rattle.lists.proofs.Strides.{places-next, places-end, stored-places}
+use Rattle.big_endian.specs.BigEndian.{wordAt, wordsFrom}
 use Rattle.file_read.proofs.fill.Statement.{statement}
 use Rattle.file_read.proofs.fill.Tie as tie
 
@@ -52,7 +52,7 @@ loop-again : tie.Need-loop-again Inv-loop μ-loop
 loop-again c =
     let l = c .before .before .loop in
     let part = c .before .before .before .before .before .args .part .now in
-    let next = words-next part (l .left) (l .at) (omega arith) in
+    let next = places-next (wordAt part) 2 (l .left) (l .at) (omega arith) in
     (rw (add-one, c .word-at .ensures .0) (rw next at (l .inv .0)), simp length-set (l .inv .1), omega arith, omega arith)
 
 same-length : tie.Need-same-length Inv-loop μ-loop
@@ -61,8 +61,8 @@ same-length c = c .before .loop .inv .1
 returns : tie.Need-returns Inv-loop μ-loop
 returns c =
     let l = c .before .loop in
-    rw (words-end _ (l .left) (l .at) (omega arith)) at (l .inv .0)
-    ∙ stored-words _ _ _ _ (c .before .before .before .before .pre)
+    rw (places-end _ 2 (l .left) (l .at) (omega arith)) at (l .inv .0)
+    ∙ stored-places _ 2 _ _ _ (c .before .before .before .before .pre)
 
 pub fill-spec : {M : Type 1} → statement M
 fill-spec =

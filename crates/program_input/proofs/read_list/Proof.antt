@@ -9,8 +9,8 @@ use native.Mathlib.Numerals.{add-one}
 use lib.ListN.{length, drop, length-set}
 use lib.Seq.{sets}
 use borrow.Author.Needs.{needs}
-use Rattle.big_endian.specs.BigEndian.{longsFrom}
-use Rattle.big_endian.proofs.Longs.{longs-next, longs-end, stored-longs}
+use Rattle.lists.proofs.Strides.{places-next, places-end, stored-places}
+use Rattle.big_endian.specs.BigEndian.{longAt, longsFrom}
 use Rattle.program_input.specs.Input.{headLength, listLength}
 use Rattle.program_input.specs.Inside.{askedEntries}
 use Rattle.program_input.proofs.read_list.Statement.{statement}
@@ -46,7 +46,7 @@ loop-holds c =
     let e : c .if1 .entries ≡ n = ⊎-elim (λ w. omega arith) (λ w. omega arith) (c .if1 .came) in
     let f : c .if1 .entries - 0 ≡ n = omega arith in
     let all = ap (λ (m : ℕ). sets (a .table .now) 0 (longsFrom input m headLength)) f in
-    (e, all ∙ stored-longs input (a .table .now) n headLength (omega arith), refl, omega arith, omega arith)
+    (e, all ∙ stored-places (longAt input) 4 (a .table .now) n headLength (omega arith), refl, omega arith, omega arith)
 
 long-at-requires : tie.Need-long-at-requires Inv-loop μ-loop
 long-at-requires c κs = omega arith
@@ -71,7 +71,7 @@ loop-again c =
     let l = c .before .before .loop in
     let input = c .before .before .before .before .before .before .before .args .input .now in
     let entries = c .before .before .before .if1 .entries in
-    let next = longs-next input (entries - l .i) (l .at) (omega arith) in
+    let next = places-next (longAt input) 4 (entries - l .i) (l .at) (omega arith) in
     let fewer : entries - (l .i + 1) ≡ entries - l .i - 1 = omega arith in
     (l .inv .0, rw (fewer, add-one (l .i), c .long-at .ensures) (rw next at (l .inv .1)), simp length-set (l .inv .2), omega arith, omega arith)
 
@@ -83,7 +83,7 @@ returns c =
     let l = c .before .loop in
     record {
       count = l .inv .0;
-      entries = rw (longs-end _ (c .before .before .if1 .entries - l .i) (l .at) (omega arith)) at (l .inv .1);
+      entries = rw (places-end _ 4 (c .before .before .if1 .entries - l .i) (l .at) (omega arith)) at (l .inv .1);
     }
 
 pub read-list-spec : {M : Type 1} → statement M

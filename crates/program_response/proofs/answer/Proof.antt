@@ -6,8 +6,8 @@ use native.Mathlib.Nat.{sub-zero}
 use lib.ListN.{take, drop}
 use lib.Seq.{take-at}
 use borrow.Author.Needs.{needs}
-use Rattle.big_endian.specs.BigEndian.{longsFrom}
-use Rattle.big_endian.proofs.Longs.{length-longs}
+use Rattle.lists.proofs.Strides.{length-places}
+use Rattle.big_endian.specs.BigEndian.{longAt, longsFrom}
 use Rattle.program_input.specs.Input.{headLength, listLength}
 use Rattle.program_input.specs.Inside.{askedEntries, Listed}
 use Rattle.program_response.proofs.CutList.{whole}
@@ -16,7 +16,7 @@ use Rattle.program_response.proofs.answer.Tie as tie
 
 -- the part of the table that is handed on
 entries : {input table after : List ℕ} {r : ℕ} → Listed input table r after → take (r - 0) (drop 0 after) ≡ longsFrom input (askedEntries (listLength input)) headLength
-entries {input} l = rw (l .count, l .entries, sub-zero) (take-at _ _ _ (length-longs input _ _))
+entries {input} l = rw (l .count, l .entries, sub-zero) (take-at _ _ _ (length-places (longAt input) 4 _ _))
 
 head-of-requires : tie.Need-head-of-requires
 head-of-requires c κs = search needs
@@ -50,7 +50,8 @@ returns c =
     let put = c .before .before in
     let file = put .before .before .before .before in
     let list = file .before .before in
-    whole _ (list .before .before .head-of .ensures) (file .file-of .ensures) (entries (list .read-list .ensures)) (put .put-answer .ensures)
+    let input = list .before .before .before .before .before .args .input .now in
+    whole input (list .before .before .head-of .ensures) (file .file-of .ensures) (entries (list .read-list .ensures)) (put .put-answer .ensures)
 
 pub answer-spec : {M : Type 1} → statement M
 answer-spec =
