@@ -10,20 +10,39 @@ use lib.Seq.{getD-take, take-all}
 use borrow.Author.Tests.{leb-true, le-ltb}
 use Rattle.lists.proofs.Strides.{take-places}
 use Rattle.big_endian.specs.BigEndian.{longAt, longsFrom}
-use Rattle.refusal.specs.declared.Verdict.the-variants.{Pass, Refused}
+use Rattle.refusal.specs.declared.Refusal.{Refusal}
 use Rattle.refusal.specs.declared.Refusal.the-variants.{BadInput, BadHoliday}
+use Rattle.refusal.specs.declared.Verdict.{Verdict}
+use Rattle.refusal.specs.declared.Verdict.the-variants.{Pass, Refused}
 use Rattle.refusal.specs.Questions.{_then_, askEach}
 use Rattle.refusal.proofs.Questions.{ask-no, ask-passed, each-passed, both}
 use Rattle.calendar_holidays.specs.Holidays.{holidayQuestion, holidaysQuestion}
+use Rattle.program_input.specs.declared.Head.{Head}
+use Rattle.program_input.specs.declared.Headed.{Headed}
 use Rattle.program_input.specs.Input.{headLength, listLength, inputQuestion, requestIn}
-use Rattle.program_input.specs.Inside.{Complete, askedEntries}
+use Rattle.program_input.specs.Inside.{headOf, headedBy, Complete, askedEntries}
 
-pub complete : (input : List ℕ) → inputQuestion input ≡ Pass → Complete input
+-- what an answer tells of question 13, and the other way round
+pub headed-complete : (v : Verdict) {head given : Head} → Headed.Complete head ≡ headedBy v given → (v ≡ Pass) × (head ≡ given)
+headed-complete Pass h = (refl, cc)
+headed-complete (Verdict.Refused r) h = let z : _≡_ {A = ℕ} 0 1 = cc in absurd (omega arith)
+
+pub headed-refused : (v : Verdict) (given : Head) {r : Refusal} → Headed.Refused r ≡ headedBy v given → v ≡ Verdict.Refused r
+headed-refused Pass given h = let z : _≡_ {A = ℕ} 0 1 = cc in absurd (omega arith)
+headed-refused (Verdict.Refused r) given h = cc
+
+pub answers-complete : {v : Verdict} {head given : Head} → v ≡ Pass → head ≡ given → Headed.Complete head ≡ headedBy v given
+answers-complete p e = rw (p, e)
+
+pub answers-refused : {v : Verdict} {r : Refusal} (given : Head) → v ≡ Verdict.Refused r → Headed.Refused r ≡ headedBy v given
+answers-refused given h = rw h
+
+pub complete : (input : List ℕ) {head : Head} → inputQuestion input ≡ Pass → head ≡ headOf input → Complete input (head .listed)
 unfolding inputQuestion
-complete input h =
+complete input h e =
     let all = both _ _ (ask-passed _ BadInput h) in
     let two = both _ _ (all .0) in
-    record { small = leb-true _ _ (two .0); head = leb-true _ _ (two .1); list = leb-true _ _ (all .1) }
+    record { small = leb-true _ _ (two .0); head = leb-true _ _ (two .1); list = leb-true _ _ (all .1); length = rw e }
 
 -- "entry index 400 is itself at fault", and so is each behind it
 at-fault : (holidays : List ℕ) (index : ℕ) → 400 ≤ index → holidayQuestion holidays index ≡ Refused (BadHoliday index)

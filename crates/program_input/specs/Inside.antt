@@ -4,15 +4,13 @@ use mathlib.Core.List.{List, _++_}
 use Prim.Native.Nat.{ℕ, _≤_, min}
 use lib.ListN.{length, drop}
 use Rattle.big_endian.specs.BigEndian.{byteAt, longAt, longsFrom}
+use Rattle.refusal.specs.declared.Verdict.{Verdict}
+use Rattle.refusal.specs.declared.Verdict.the-variants.{Pass, Refused}
 use Rattle.program_input.specs.declared.Head.{Head}
+use Rattle.program_input.specs.declared.Headed.{Headed}
 use Rattle.program_input.specs.Input.{headLength, listLength, fileStart}
 
--- question 13 passed
-pub record Complete (input : List ℕ) : Type 0 where
-  pub small : length input ≤ 65_536
-  pub head : headLength ≤ length input
-  pub list : fileStart input ≤ length input
-
+-- the head where question 13 passed, else the refusal
 abbrev pub headOf : List ℕ → Head
 headOf input =
     record {
@@ -23,11 +21,22 @@ headOf input =
       listed = listLength input;
     }
 
+abbrev pub headedBy : Verdict → Head → Headed
+headedBy Pass head = Headed.Complete head
+headedBy (Refused r) head = Headed.Refused r
+
+-- question 13 passed, and the list's length is known
+pub record Complete (input : List ℕ) (listed : ℕ) : Type 0 where
+  pub small : length input ≤ 65_536
+  pub head : headLength ≤ length input
+  pub list : fileStart input ≤ length input
+  pub length : listed ≡ listLength input
+
 -- the entries of a list that question 9 can ask about: entry index 400 is at fault whatever it holds
 abbrev pub askedEntries : ℕ → ℕ
 askedEntries listed = min listed 401
 
--- the list's first entries, at the start of a lent table, which keeps the others
-pub record Listed (input table : List ℕ) (r : ℕ) (after : List ℕ) : Type 0 where
+-- the list's first entries, at the start of a lent list, which keeps the others
+pub record Listed (input before : List ℕ) (r : ℕ) (after : List ℕ) : Type 0 where
   pub count : r ≡ askedEntries (listLength input)
-  pub entries : after ≡ longsFrom input (askedEntries (listLength input)) headLength ++ drop (askedEntries (listLength input)) table
+  pub entries : after ≡ longsFrom input (askedEntries (listLength input)) headLength ++ drop (askedEntries (listLength input)) before

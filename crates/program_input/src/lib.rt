@@ -1,11 +1,10 @@
 // The program's input (document 01, "The program"): question 13, and the request that the bytes hold.
 use refusal::Refusal;
-use refusal::Verdict;
 ghost use mathlib.Core.Path.{_≡_};
-ghost use Prim.Native.Nat.{_≤_};
+ghost use Prim.Native.Nat.{_≤_, _<_};
 ghost use lib.ListN.{length, drop};
-ghost use Rattle.program_input.specs.Input.{fileStart, inputQuestion};
-ghost use Rattle.program_input.specs.Inside.{Complete, headOf, Listed};
+ghost use Rattle.program_input.specs.Input.{headLength, fileStart, inputQuestion};
+ghost use Rattle.program_input.specs.Inside.{headOf, headedBy, Complete, Listed};
 
 // Group, two dates, A and list length.
 pub const HEAD_LENGTH: usize = 15;
@@ -22,26 +21,15 @@ pub struct Head {
     pub listed: usize,
 }
 
-// Question 13.
-pub fn input_question(input: &[u8]) -> Verdict
-    ensures { λ r. ⌜ r ≡ inputQuestion (now (input .entry)) ⌝ }
-{
-    if 65_536 < input.len() {
-        return Verdict::Refused(Refusal::BadInput);
-    }
-    if input.len() < HEAD_LENGTH {
-        return Verdict::Refused(Refusal::BadInput);
-    }
-    if input.len() < HEAD_LENGTH + big_endian::word_at(input, 13) as usize * 4 {
-        return Verdict::Refused(Refusal::BadInput);
-    }
-    Verdict::Pass
+// The head of an input, or the refusal.
+pub enum Headed {
+    Complete(Head),
+    Refused(Refusal),
 }
 
-// The head of an input that passed question 13.
-pub fn head_of(input: &[u8]) -> Head
-    requires { ⌜ Complete (now input) ⌝ }
-    ensures { λ r. ⌜ r ≡ headOf (now (input .entry)) ⌝ }
+fn head_of(input: &[u8]) -> Head
+    requires { ⌜ headLength ≤ length (now input) ⌝ }
+    ensures { λ r. ⌜ (r ≡ headOf (now (input .entry))) × (r .listed < 65_536) ⌝ }
 {
     Head {
         group: input[0],
@@ -52,31 +40,48 @@ pub fn head_of(input: &[u8]) -> Head
     }
 }
 
-// Fills the table's first entries with the list's, as many as question 9 can ask about, and answers how many.
-pub fn read_list(input: &[u8], table: &mut [u32]) -> usize
-    requires { ⌜ Complete (now input) ⌝ }
-    requires { ⌜ 401 ≤ length (now table) ⌝ }
-    ensures { λ r. ⌜ Listed (now (input .entry)) (now (table .entry)) r (now (table .exit)) ⌝ }
+// Question 13.
+pub fn head_in(input: &[u8]) -> Headed
+    ensures { λ r. ⌜ r ≡ headedBy (inputQuestion (now (input .entry))) (headOf (now (input .entry))) ⌝ }
 {
-    let mut entries = big_endian::word_at(input, 13) as usize;
+    if 65_536 < input.len() {
+        return Headed::Refused(Refusal::BadInput);
+    }
+    if input.len() < HEAD_LENGTH {
+        return Headed::Refused(Refusal::BadInput);
+    }
+    let head = head_of(input);
+    if input.len() < HEAD_LENGTH + head.listed * 4 {
+        return Headed::Refused(Refusal::BadInput);
+    }
+    Headed::Complete(head)
+}
+
+// Fills the first places of `list` with the input's list, as many as question 9 can ask about, and answers how many.
+pub fn read_list(input: &[u8], listed: usize, list: &mut [u32]) -> usize
+    requires { ⌜ Complete (now input) listed ⌝ }
+    requires { ⌜ 401 ≤ length (now list) ⌝ }
+    ensures { λ r. ⌜ Listed (now (input .entry)) (now (list .entry)) r (now (list .exit)) ⌝ }
+{
+    let mut entries = listed;
     if LIST_ROOM < entries {
         entries = LIST_ROOM;
     }
     let mut i: usize = 0;
     let mut at = HEAD_LENGTH;
     while i < entries {
-        table[i] = big_endian::long_at(input, at);
+        list[i] = big_endian::long_at(input, at);
         i += 1;
         at += 4;
     }
     entries
 }
 
-// The profile file of an input that passed question 13.
-pub fn file_of(input: &[u8]) -> &[u8]
-    requires { ⌜ Complete (now input) ⌝ }
+// The profile file, behind the list.
+pub fn file_of(input: &[u8], listed: usize) -> &[u8]
+    requires { ⌜ Complete (now input) listed ⌝ }
     ensures { λ r. ⌜ now r ≡ drop (fileStart (now (input .entry))) (now (input .entry)) ⌝ }
 {
-    let start = HEAD_LENGTH + big_endian::word_at(input, 13) as usize * 4;
+    let start = HEAD_LENGTH + listed * 4;
     &input[start..]
 }

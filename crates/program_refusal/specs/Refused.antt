@@ -1,8 +1,8 @@
 -- Document 01, "The program": the line that it prints for a refusal.
 use mathlib.Core.List.{List, [], _∷_, _++_}
 use Prim.Native.Nat.{ℕ}
-use Rattle.refusal.specs.declared.Verdict.{Verdict}
-use Rattle.refusal.specs.Questions.{number, place}
+use Rattle.refusal.specs.declared.Refusal.{Refusal}
+use Rattle.refusal.specs.Questions.{refusalNumber, refusalPlace}
 use Rattle.text.specs.Text.{lineFeed}
 use Rattle.text_fields.specs.Fields.{field}
 
@@ -11,5 +11,5 @@ abbrev pub refusedWord : List ℕ
 refusedWord = 114 ∷ 101 ∷ 102 ∷ 117 ∷ 115 ∷ 101 ∷ 100 ∷ []
 
 -- "A refusal prints "refused", number, place."
-unfoldable pub refusedLine : Verdict → List ℕ
-refusedLine v = refusedWord ++ (field (number v) ++ (field (place v) ++ (lineFeed ∷ [])))
+unfoldable pub refusedLine : Refusal → List ℕ
+refusedLine r = refusedWord ++ (field (refusalNumber r) ++ (field (refusalPlace r) ++ (lineFeed ∷ [])))

@@ -13,12 +13,6 @@ use Rattle.program_input.proofs.file_of.Tie as tie
 rest : (l : List ℕ) (start : ℕ) → take (length l - start) (drop start l) ≡ drop start l
 rest l start = take-all (length l - start) (drop start l) (omega (arith, length-drop start l))
 
-word-at-requires : tie.Need-word-at-requires
-word-at-requires c κs = search needs
-
-cast-start : tie.Need-cast-start
-cast-start c = search needs
-
 mul-start : tie.Need-mul-start
 mul-start c = search needs
 
@@ -36,18 +30,9 @@ part-result-end c = search needs
 
 returns : tie.Need-returns
 returns c =
-    let input = c .before .before .before .args .input .now in
-    rw (c .before .word-at .ensures .0) (rest input (fileStart input))
+    let input = c .before .args .input .now in
+    rw (c .before .pre .length) (rest input (fileStart input))
 
 pub file-of-spec : {M : Type 1} → statement M
 file-of-spec =
-    tie.close
-    (tie.spec
-    word-at-requires
-    cast-start
-    mul-start
-    add-start
-    sub-result
-    part-result-start
-    part-result-end
-    returns)
+    tie.close (tie.spec mul-start add-start sub-result part-result-start part-result-end returns)

@@ -22,13 +22,15 @@ cast-t8 : tie.Need-cast-t8
 cast-t8 c = search needs
 
 returns : tie.Need-returns
-returns c =
-    rw (
-      c .before .before .before .long-at .ensures,
-      c .before .before .long-at2 .ensures,
-      c .before .long-at3 .ensures,
-      c .word-at .ensures .0,
-    )
+returns c = (
+  rw (
+    c .before .before .before .long-at .ensures,
+    c .before .before .long-at2 .ensures,
+    c .before .long-at3 .ensures,
+    c .word-at .ensures .0,
+  ),
+  c .word-at .ensures .1,
+)
 
 pub head-of-spec : {M : Type 1} → statement M
 head-of-spec =

@@ -16,46 +16,40 @@ use Rattle.program_input.specs.Inside.{askedEntries}
 use Rattle.program_input.proofs.read_list.Statement.{statement}
 use Rattle.program_input.proofs.read_list.Tie as tie
 
--- the table, filled
-abbrev listed : List ℕ → List ℕ → List ℕ
-listed input table =
-    longsFrom input (askedEntries (listLength input)) headLength ++ drop (askedEntries (listLength input)) table
+-- the list, filled
+abbrev filled : List ℕ → List ℕ → List ℕ
+filled input list =
+    longsFrom input (askedEntries (listLength input)) headLength ++ drop (askedEntries (listLength input)) list
 
 abbrev Inv-loop : tie.InvT-loop
-Inv-loop input table₀ entries i₀ at₀ table i at =
+Inv-loop input listed list₀ entries i₀ at₀ list i at =
     (entries ≡ askedEntries (listLength input))
-    × (sets table i (longsFrom input (entries - i) at) ≡ listed input table₀)
-    × (length table ≡ length table₀)
+    × (sets list i (longsFrom input (entries - i) at) ≡ filled input list₀)
+    × (length list ≡ length list₀)
     × (at ≡ headLength + i * 4)
     × (i ≤ entries)
 
 abbrev μ-loop : tie.MeasureT-loop
-μ-loop input table₀ entries i₀ at₀ table i at = entries - i
-
-word-at-requires : tie.Need-word-at-requires Inv-loop μ-loop
-word-at-requires c κs = search needs
-
-cast-entries : tie.Need-cast-entries Inv-loop μ-loop
-cast-entries c = search needs
+μ-loop input listed list₀ entries i₀ at₀ list i at = entries - i
 
 loop-holds : tie.Need-loop-holds Inv-loop μ-loop
 loop-holds c =
-    let a = c .before .before .before .before .args in
+    let a = c .before .before .before .args in
     let input = a .input .now in
     let n = askedEntries (listLength input) in
     let e : c .if1 .entries ≡ n = ⊎-elim (λ w. omega arith) (λ w. omega arith) (c .if1 .came) in
     let f : c .if1 .entries - 0 ≡ n = omega arith in
-    let all = ap (λ (m : ℕ). sets (a .table .now) 0 (longsFrom input m headLength)) f in
-    (e, all ∙ stored-places (longAt input) 4 (a .table .now) n headLength (omega arith), refl, omega arith, omega arith)
+    let all = ap (λ (m : ℕ). sets (a .list .now) 0 (longsFrom input m headLength)) f in
+    (e, all ∙ stored-places (longAt input) 4 (a .list .now) n headLength (omega arith), refl, omega arith, omega arith)
 
 long-at-requires : tie.Need-long-at-requires Inv-loop μ-loop
 long-at-requires c κs = omega arith
 
-mul-table : tie.Need-mul-table Inv-loop μ-loop
-mul-table c = omega arith
+mul-list : tie.Need-mul-list Inv-loop μ-loop
+mul-list c = omega arith
 
-slice-write-table : tie.Need-slice-write-table Inv-loop μ-loop
-slice-write-table c = omega arith
+slice-write-list : tie.Need-slice-write-list Inv-loop μ-loop
+slice-write-list c = omega arith
 
 add-i : tie.Need-add-i Inv-loop μ-loop
 add-i c = omega arith
@@ -69,7 +63,7 @@ loop-less c = omega arith
 loop-again : tie.Need-loop-again Inv-loop μ-loop
 loop-again c =
     let l = c .before .before .loop in
-    let input = c .before .before .before .before .before .before .before .args .input .now in
+    let input = c .before .before .before .before .before .before .args .input .now in
     let entries = c .before .before .before .if1 .entries in
     let next = places-next (longAt input) 4 (entries - l .i) (l .at) (omega arith) in
     let fewer : entries - (l .i + 1) ≡ entries - l .i - 1 = omega arith in
@@ -92,12 +86,10 @@ read-list-spec =
     (tie.spec
     Inv-loop
     μ-loop
-    word-at-requires
-    cast-entries
     loop-holds
     long-at-requires
-    mul-table
-    slice-write-table
+    mul-list
+    slice-write-list
     add-i
     add-at
     loop-less
