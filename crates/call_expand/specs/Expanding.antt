@@ -12,6 +12,7 @@ use Rattle.carry.specs.Carry.{lastCarry}
 use Rattle.carry.specs.Energy.{powers}
 use Rattle.call_request.specs.Request.{Request, quarters, series, requestCheck}
 use Rattle.call_expansion.specs.declared.Expansion.{Expansion}
+use Rattle.call_expansion.specs.declared.ExpansionReport.{ExpansionReport}
 use Rattle.call_expansion.specs.Answered.{answered, reported}
 
 -- questions 1 to 12
@@ -38,4 +39,9 @@ outputAfter q = lentAfter (expandCheck q) (series q) (q .output)
 pub record Expands (q : Request) (answer : Expansion) (after : List ℕ) : Type 0 where
   pub answers : answer ≡ expansion q
   pub reports : reported answer ≡ reported (expansion q)
+  pub leaves : after ≡ outputAfter q
+
+-- the contract of the exported call: its report, and the output afterwards
+pub record Reports (q : Request) (report : ExpansionReport) (after : List ℕ) : Type 0 where
+  pub answers : report ≡ reported (expansion q)
   pub leaves : after ≡ outputAfter q

@@ -18,7 +18,8 @@ pub fn expand(
     carry: u32,
     out: &mut [u32],
 ) -> Expansion
-    ensures { λ r. ⌜ Expands (request (now (file .entry)) group first last (now (holidays .entry)) yearly carry (now (out .entry))) r (now (out .exit)) ⌝ }
+    ensures { λ r. ⌜ Expands
+        (request (now (file .entry)) group first last (now (holidays .entry)) yearly carry (now (out .entry))) r (now (out .exit)) ⌝ }
 {
     let opening = match call_open::open(file, group, first, last, holidays, yearly, carry) {
         Opened::Request(opening) => opening,

@@ -4,8 +4,11 @@ use call_day::DayReport;
 use call_expansion::ExpansionReport;
 use file_compare::ComparisonReport;
 use file_locate::LocatedPart;
+use program_response::ResponseReport;
+use refusal::CheckReport;
 ghost use mathlib.Core.Path.{_≡_};
 ghost use lib.ListN.{length};
+ghost use Rattle.refusal.specs.Questions.{reported};
 ghost use Rattle.file_group.specs.Group.{check};
 ghost use Rattle.file_locate.specs.Locating.{locatedPart};
 ghost use Rattle.file_read.specs.Reading.{readCheck, tableAfter};
@@ -14,31 +17,15 @@ ghost use Rattle.file_write_check.specs.WriteCheck.{writeCheck};
 ghost use Rattle.file_write.specs.Buffer.{bufferAfter};
 ghost use Rattle.call_day.specs.Enquiry.{dayEnquiry, reported as reportedDay};
 ghost use Rattle.call_request.specs.Request.{request};
-ghost use Rattle.call_expansion.specs.Answered.{reported as reportedExpansion};
-ghost use Rattle.call_expand.specs.Expanding.{expansion, outputAfter};
-ghost use Rattle.exports.specs.Exports.{reportedCheck};
-
-#[repr(C)]
-pub struct CheckReport {
-    pub number: u32,
-    pub place: usize,
-}
-
-fn report_check(v: refusal::Verdict) -> CheckReport
-    ensures { λ r. ⌜ r ≡ reportedCheck v ⌝ }
-{
-    CheckReport {
-        number: refusal::number_of(v),
-        place: refusal::place_of(v),
-    }
-}
+ghost use Rattle.call_expand.specs.Expanding.{Reports};
+ghost use Rattle.program_response.specs.Responding.{responseTo, pageAfter, reported as reportedResponse};
 
 // Questions 1 to 6.
 #[no_mangle]
 pub extern "C" fn slp_check(file: &[u8], group: u8) -> CheckReport
-    ensures { λ r. ⌜ r ≡ reportedCheck (check (now (file .entry)) group) ⌝ }
+    ensures { λ r. ⌜ r ≡ reported (check (now (file .entry)) group) ⌝ }
 {
-    report_check(file_group::check(file, group))
+    refusal::report(file_group::check(file, group))
 }
 
 // Where a group's value bytes stand in the file.
@@ -52,19 +39,19 @@ pub extern "C" fn slp_locate(file: &[u8], group: u8) -> LocatedPart
 // Reads a group's values into a table.
 #[no_mangle]
 pub extern "C" fn slp_read(file: &[u8], group: u8, table: &mut [u16]) -> CheckReport
-    ensures { λ r. ⌜ r ≡ reportedCheck (readCheck (now (file .entry)) group (length (now (table .entry)))) ⌝ }
+    ensures { λ r. ⌜ r ≡ reported (readCheck (now (file .entry)) group (length (now (table .entry)))) ⌝ }
     ensures { λ r. ⌜ now (table .exit) ≡ tableAfter (now (file .entry)) group (now (table .entry)) ⌝ }
 {
-    report_check(file_read::read(file, group, table))
+    refusal::report(file_read::read(file, group, table))
 }
 
 // Writes a profile file into a buffer.
 #[no_mangle]
 pub extern "C" fn slp_write(codes: &[u8], values: &[u16], buffer: &mut [u8]) -> CheckReport
-    ensures { λ r. ⌜ r ≡ reportedCheck (writeCheck (now (codes .entry)) (now (values .entry)) (length (now (buffer .entry)))) ⌝ }
+    ensures { λ r. ⌜ r ≡ reported (writeCheck (now (codes .entry)) (now (values .entry)) (length (now (buffer .entry)))) ⌝ }
     ensures { λ r. ⌜ now (buffer .exit) ≡ bufferAfter (now (codes .entry)) (now (values .entry)) (now (buffer .entry)) ⌝ }
 {
-    report_check(file_write::write(codes, values, buffer))
+    refusal::report(file_write::write(codes, values, buffer))
 }
 
 // Compares two groups.
@@ -95,8 +82,8 @@ pub extern "C" fn slp_expand(
     carry: u32,
     out: &mut [u32],
 ) -> ExpansionReport
-    ensures { λ r. ⌜ r ≡ reportedExpansion (expansion (request (now (file .entry)) group first last (now (holidays .entry)) yearly carry (now (out .entry)))) ⌝ }
-    ensures { λ r. ⌜ now (out .exit) ≡ outputAfter (request (now (file .entry)) group first last (now (holidays .entry)) yearly carry (now (out .entry))) ⌝ }
+    ensures { λ r. ⌜ Reports
+        (request (now (file .entry)) group first last (now (holidays .entry)) yearly carry (now (out .entry))) r (now (out .exit)) ⌝ }
 {
     call_expansion::report(call_expand::expand(
         file,
@@ -108,4 +95,13 @@ pub extern "C" fn slp_expand(
         carry,
         out,
     ))
+}
+
+// What the program prints for an input.
+#[no_mangle]
+pub extern "C" fn slp_respond(input: &[u8], page: &mut [u8]) -> ResponseReport
+    ensures { λ r. ⌜ r ≡ reportedResponse (responseTo (now (input .entry)) (now (page .entry))) ⌝ }
+    ensures { λ r. ⌜ now (page .exit) ≡ pageAfter (now (input .entry)) (now (page .entry)) ⌝ }
+{
+    program_response::report(program_response::respond(input, page))
 }

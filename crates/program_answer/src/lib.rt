@@ -1,11 +1,11 @@
 // The lines that answer a request (document 01, "The program"): those of its days and the last one, or the refusal.
-use refusal::Verdict;
+use call_open::Opened;
 ghost use mathlib.Core.List.{[]};
 ghost use Prim.Native.Nat.{_≤_};
 ghost use lib.ListN.{length};
 ghost use Rattle.call_request.specs.Request.{request};
 ghost use Rattle.text.specs.Inside.{Put};
-ghost use Rattle.program_request.specs.Accepted.{pageLength};
+ghost use Rattle.program_answer.specs.Accepted.{pageLength};
 ghost use Rattle.program_answer.specs.Inside.{linesOf};
 
 // Puts the lines of a request: those of its days and the last one, or the refusal.
@@ -21,9 +21,13 @@ pub fn put_answer(
     requires { ⌜ pageLength ≤ length (now page) ⌝ }
     ensures { λ r. ⌜ Put (linesOf (request (now (file .entry)) group first last (now (holidays .entry)) yearly 0 [])) (now (page .entry)) 0 r (now (page .exit)) ⌝ }
 {
-    let v = call_request::check_request(file, group, first, last, holidays, yearly, 0);
-    let Verdict::Pass = v else {
-        return program_refusal::put_refused_line(v, page, 0);
+    let opening = match call_open::open(file, group, first, last, holidays, yearly, 0) {
+        Opened::Request(opening) => opening,
+        Opened::Refused(refusal) => return program_refusal::put_refused_line(refusal, page, 0),
     };
-    program_request::put_lines(file, group, first, last, holidays, yearly, page)
+    let values = file_read::values_at(file, opening.at);
+    let day = opening.first;
+    let days = opening.days;
+    let lines = program_listing::list_days(&values, group, day, days, holidays, yearly, page);
+    program_lines::put_last_line(days, lines.totals, page, lines.at)
 }

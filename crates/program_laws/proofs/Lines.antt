@@ -23,7 +23,7 @@ use Rattle.call_expand.specs.Expanding.{expandCheck, totals, expansion}
 use Rattle.program_lines.specs.Lines.{rowOf}
 use Rattle.program_listing.specs.Listing.{rows}
 use Rattle.program_listing.proofs.Listing.{length-rows}
-use Rattle.program_request.specs.Accepted.{rowsOf}
+use Rattle.program_answer.specs.Accepted.{rowsOf}
 use Rattle.program_laws.specs.Lines.{lent, AsExpanded, LinesAsExpanded}
 use Rattle.program_laws.specs.Rows.{RowsAddUp}
 use Rattle.program_laws.proofs.Rows.{rows-add-up}

@@ -22,7 +22,7 @@ use Rattle.program_input.specs.Input.{inputQuestion, requestIn}
 use Rattle.program_lines.specs.Lines.{dayLines, lastLine}
 use Rattle.program_refusal.specs.Refused.{refusedLine}
 use Rattle.program_listing.proofs.Listing.{last-line-short, lines-short}
-use Rattle.program_request.specs.Accepted.{rowsOf, pageLength}
+use Rattle.program_answer.specs.Accepted.{rowsOf, pageLength}
 use Rattle.program_answer.specs.Answer.{linesFor}
 use Rattle.program_response.specs.declared.Response.{Response}
 use Rattle.program_response.specs.declared.Response.the-variants.{Written, NoRoom}

@@ -12,7 +12,7 @@ use Rattle.call_expansion.specs.declared.Expansion.{Expansion}
 use Rattle.call_expansion.specs.declared.Expansion.the-variants.{Expanded}
 use Rattle.call_expand.specs.Expanding.{totals, expansion}
 use Rattle.program_lines.specs.Lines.{rowOf}
-use Rattle.program_request.specs.Accepted.{rowsOf, pageLength}
+use Rattle.program_answer.specs.Accepted.{rowsOf, pageLength}
 use Rattle.program_response.specs.Printed.{printed}
 
 -- the same request with an output of its own: an input's request has none

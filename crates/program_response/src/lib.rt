@@ -1,57 +1,68 @@
-// What the program prints for an input (document 01, "The program"), made on a lent page.
+// What the program answers to an input (document 01, "The program"), on a lent page.
+use refusal::Refusal;
 use refusal::Verdict;
 ghost use mathlib.Core.Path.{_≡_};
-ghost use Prim.Native.Nat.{_≤_};
-ghost use lib.ListN.{length};
-ghost use Rattle.text.specs.Inside.{Put};
-ghost use Rattle.program_input.specs.Input.{requestIn};
-ghost use Rattle.program_input.specs.Inside.{Complete};
-ghost use Rattle.program_request.specs.Accepted.{pageLength};
-ghost use Rattle.program_answer.specs.Inside.{linesOf};
-ghost use Rattle.program_response.specs.Printed.{responseTo, pageAfter};
+ghost use Rattle.program_response.specs.Responding.{responseTo, pageAfter, reported};
+ghost use Rattle.program_response.specs.Inside.{Answers};
 
 // The room that is enough for every input.
 pub const PAGE_LENGTH: usize = 65_536;
 
-// How many bytes were put at the start of the page, or that it has too little room.
+// How many bytes were put at the start of the page, or that it has too little room for them.
 pub enum Response {
     Written(usize),
-    NoRoom,
+    Refused(Refusal),
 }
 
-// Answers an input that passed question 13.
-fn answer(input: &[u8], page: &mut [u8]) -> usize
-    requires { ⌜ Complete (now input) ⌝ }
-    requires { ⌜ pageLength ≤ length (now page) ⌝ }
-    ensures { λ r. ⌜ Put (linesOf (requestIn (now (input .entry)))) (now (page .entry)) 0 r (now (page .exit)) ⌝ }
+// The answer in figures: number and place, 0 when the text was written, and its length, 0 when refused.
+#[repr(C)]
+pub struct ResponseReport {
+    pub number: u32,
+    pub place: usize,
+    pub length: usize,
+}
+
+// Puts lines at the start of the page, where it has room for them, and keeps what is beyond.
+fn put_lines(lines: &[u8], page: &mut [u8]) -> Response
+    ensures { λ r. ⌜ Answers (now (lines .entry)) (now (page .entry)) r (now (page .exit)) ⌝ }
 {
-    let head = program_input::head_of(input);
-    let mut table = [0u32; program_input::LIST_ROOM];
-    let listed = program_input::read_list(input, &mut table);
-    let file = program_input::file_of(input);
-    program_answer::put_answer(
-        file,
-        head.group,
-        head.first,
-        head.last,
-        &table[0..listed],
-        head.yearly,
-        page,
-    )
+    if let Verdict::Refused(refusal) = refusal::room_question(lines.len(), page.len()) {
+        return Response::Refused(refusal);
+    }
+    Response::Written(text::put_word(lines, page, 0))
 }
 
-// Puts what the program prints for an input at the start of the page and keeps what is beyond; with less room than 65,536 bytes it
-// does nothing.
+// Puts what the program prints for an input at the start of the page, where it has room for it, and keeps what is beyond.
 pub fn respond(input: &[u8], page: &mut [u8]) -> Response
     ensures { λ r. ⌜ r ≡ responseTo (now (input .entry)) (now (page .entry)) ⌝ }
+    ensures { λ r. ⌜ reported r ≡ reported (responseTo (now (input .entry)) (now (page .entry))) ⌝ }
     ensures { λ r. ⌜ now (page .exit) ≡ pageAfter (now (input .entry)) (now (page .entry)) ⌝ }
 {
-    if page.len() < PAGE_LENGTH {
-        return Response::NoRoom;
+    let mut lines = [0u8; PAGE_LENGTH];
+    let length = program_text::put_text(input, &mut lines);
+    put_lines(&lines[0..length], page)
+}
+
+fn report_refusal(refusal: Refusal) -> ResponseReport
+    ensures { λ r. ⌜ r ≡ reported (Response.Refused refusal) ⌝ }
+{
+    ResponseReport {
+        number: refusal::number_of(refusal),
+        place: refusal::place_of(refusal),
+        length: 0,
     }
-    let v = program_input::input_question(input);
-    let Verdict::Pass = v else {
-        return Response::Written(program_refusal::put_refused_line(v, page, 0));
-    };
-    Response::Written(answer(input, page))
+}
+
+// The answer in figures.
+pub fn report(answer: Response) -> ResponseReport
+    ensures { λ r. ⌜ r ≡ reported answer ⌝ }
+{
+    match answer {
+        Response::Written(length) => ResponseReport {
+            number: 0,
+            place: 0,
+            length,
+        },
+        Response::Refused(refusal) => report_refusal(refusal),
+    }
 }

@@ -8,8 +8,8 @@ use program_response::Response;
 ghost use mathlib.Core.Path.{_≡_};
 ghost use Prim.Native.Nat.{_≤_};
 ghost use lib.ListN.{length, take};
-ghost use Rattle.program_request.specs.Accepted.{pageLength};
-ghost use Rattle.program_response.specs.Printed.{pageAfter};
+ghost use Rattle.program_answer.specs.Accepted.{pageLength};
+ghost use Rattle.program_response.specs.Responding.{pageAfter};
 
 fn main() {
     // one byte more than an input may have, so that a longer one is told from the longest
@@ -42,7 +42,7 @@ fn print(input: &[u8], count: usize, page: &mut [u8])
 {
     let answer = program_response::respond(&input[0..count], page);
     let Response::Written(written) = answer else {
-        return; // not reached: that page is long enough
+        return; // not reached: theorem `EnoughRoom`
     };
     if !io::write_all(STDOUT_FILENO, &page[0..written]) {
         io::write_all(STDERR_FILENO, b"slp: the output could not be written\n");

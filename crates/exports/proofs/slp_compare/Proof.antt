@@ -1,8 +1,6 @@
--- `exports::slp_compare` meets its contract: the call's own contract, by the figures of its answer.
--- Assumes nothing.
-use mathlib.Core.Path.{_∙_, ap}
+-- `exports::slp_compare` meets its contract: the call's own contract, by the figures of its answer. Assumes nothing.
+use mathlib.Core.Path.{_∙_}
 use borrow.Author.Needs.{needs}
-use Rattle.file_compare.specs.Comparing.{reportedComparison}
 use Rattle.exports.proofs.slp_compare.Statement.{statement}
 use Rattle.exports.proofs.slp_compare.Tie as tie
 
@@ -13,7 +11,7 @@ report-requires : tie.Need-report-requires
 report-requires c κs = search needs
 
 returns : tie.Need-returns
-returns c = c .report .ensures ∙ ap reportedComparison (c .before .compare .ensures)
+returns c = c .report .ensures ∙ c .before .compare .ensures .1
 
 pub slp-compare-spec : {M : Type 1} → statement M
 slp-compare-spec = tie.close (tie.spec compare-requires report-requires returns)

@@ -1,8 +1,6 @@
--- `exports::slp_day` meets its contract: the call's own contract, by the figures of its answer.
--- Assumes nothing.
-use mathlib.Core.Path.{_∙_, ap}
+-- `exports::slp_day` meets its contract: the call's own contract, by the figures of its answer. Assumes nothing.
+use mathlib.Core.Path.{_∙_}
 use borrow.Author.Needs.{needs}
-use Rattle.call_day.specs.Enquiry.{reported}
 use Rattle.exports.proofs.slp_day.Statement.{statement}
 use Rattle.exports.proofs.slp_day.Tie as tie
 
@@ -13,7 +11,7 @@ report-requires : tie.Need-report-requires
 report-requires c κs = search needs
 
 returns : tie.Need-returns
-returns c = c .report .ensures ∙ ap reported (c .before .enquire .ensures)
+returns c = c .report .ensures ∙ c .before .enquire .ensures .1
 
 pub slp-day-spec : {M : Type 1} → statement M
 slp-day-spec = tie.close (tie.spec enquire-requires report-requires returns)

@@ -1,8 +1,6 @@
--- `exports::slp_expand` meets its contract: the call's own contract, by the figures of its answer.
--- Assumes nothing.
-use mathlib.Core.Path.{_∙_, ap}
+-- `exports::slp_expand` meets its contract: the call's own contract, by the figures of its answer. Assumes nothing.
+use mathlib.Core.Path.{_∙_}
 use borrow.Author.Needs.{needs}
-use Rattle.call_expansion.specs.Answered.{reported}
 use Rattle.exports.proofs.slp_expand.Statement.{statement}
 use Rattle.exports.proofs.slp_expand.Tie as tie
 
@@ -18,7 +16,7 @@ same-length c = search needs
 returns : tie.Need-returns
 returns c =
     let call = c .before .before .before .expand .ensures in
-    (c .report .ensures ∙ ap reported (call .answers), call .leaves)
+    record { answers = c .report .ensures ∙ call .reports; leaves = call .leaves }
 
 pub slp-expand-spec : {M : Type 1} → statement M
 slp-expand-spec = tie.close (tie.spec expand-requires report-requires same-length returns)

@@ -1,10 +1,13 @@
--- `program_answer::put_answer` meets its contract: a refusal's line, or the lines of an accepted request. Assumes nothing.
-use mathlib.Core.Path.{_≡_, sym, _∙_}
+-- `program_answer::put_answer` meets its contract: a refusal's line, or the lines of the days and the last one. Assumes nothing.
+use mathlib.Core.Path.{_≡_, refl, sym, _∙_}
 use mathlib.Core.List.{[]}
+use native.Mathlib.Omega.{arith}
 use borrow.Author.Needs.{needs}
-use Rattle.refusal.specs.declared.Verdict.the-variants.{Pass}
-use Rattle.call_request.specs.Request.{Request, request, requestCheck}
-use Rattle.program_answer.proofs.Answer.{refused, accepted}
+use Rattle.file_group.proofs.Group.{values-inside}
+use Rattle.call_request.specs.Request.{Request, request}
+use Rattle.call_open.proofs.Given.{opened-refused, OpenedFor, opened-for, table-is, group-values}
+use Rattle.program_answer.proofs.Accepted.{accepted}
+use Rattle.program_answer.proofs.Answer.{refused-lines, accepted-lines}
 use Rattle.program_answer.proofs.put_answer.Statement.{statement}
 use Rattle.program_answer.proofs.put_answer.Tie as tie
 
@@ -12,14 +15,25 @@ use Rattle.program_answer.proofs.put_answer.Tie as tie
 abbrev given : tie.Start → Request
 given s = request (s .args .file .now) (s .args .group) (s .args .first) (s .args .last) (s .args .holidays .now) (s .args .yearly) 0 []
 
-check-request-requires : tie.Need-check-request-requires
-check-request-requires c κs = search needs
+-- the request was opened
+abbrev start : tie.After-known-told → tie.Start
+start c = c .before .before .before .before .before .before .before
 
-enum-told : tie.Need-enum-told
-enum-told c = search needs
+opened : (c : tie.After-known-told) → OpenedFor (given (start c)) (c .before .opening .given .0 .0)
+opened c = opened-for (given (start c)) (sym (c .before .opening .given .1) ∙ c .before .before .before .open .ensures)
 
-enum-told-2 : tie.Need-enum-told-2
-enum-told-2 c = search needs
+-- its lines were put
+abbrev of-list : tie.After-list-days → tie.After-values-at
+of-list c = c .before .before .before .before
+
+open-requires : tie.Need-open-requires
+open-requires c κs = search needs
+
+enum-known-opening : tie.Need-enum-known-opening
+enum-known-opening c = search needs
+
+enum-known-refusal : tie.Need-enum-known-refusal
+enum-known-refusal c = search needs
 
 put-refused-line-requires : tie.Need-put-refused-line-requires
 put-refused-line-requires c κs = search needs
@@ -31,32 +45,55 @@ returns : tie.Need-returns
 returns c =
     let line = c .before .before in
     let told = line .before .before .before in
-    refused _ (told .before .check-request .ensures) (told .match .keys2) (line .put-refused-line .ensures)
+    refused-lines _ (opened-refused _ _ (sym (told .refusal .given .1) ∙ told .before .before .open .ensures)) (line .put-refused-line .ensures)
 
-passed : (c : tie.After-enum-told) → requestCheck (given (c .before .before .before .before .before .before)) ≡ Pass
-passed c = sym (c .before .before .check-request .ensures) ∙ c .enum-told .given .1
+values-at-requires : tie.Need-values-at-requires
+values-at-requires c κs = values-inside _ _ (opened c .found)
 
-put-lines-requires : tie.Need-put-lines-requires
-put-lines-requires c κs = (passed (c .before), c .before .before .before .before .before .before .before .pre)
+slice-aggregate-list-days : tie.Need-slice-aggregate-list-days
+slice-aggregate-list-days c = search needs
+
+list-days-requires : tie.Need-list-days-requires
+list-days-requires c κs =
+    let v = c .before .before .before in
+    let o = opened (v .before) in
+    let s = o .sound in
+    let room = start (v .before) .pre in
+    let values = group-values (given (start (v .before))) o (v .values-at .ensures) in
+    (values, (o .real, (s .holidays, (record { yearlySmall = s .yearly; carrySmall = s .carry }, omega arith))))
+
+put-last-line-requires : tie.Need-put-last-line-requires
+put-last-line-requires c κs =
+    let list = c .before .before .before in
+    let o = opened (of-list list .before) in
+    omega (arith, start (of-list list .before) .pre, o .real .few, list .list-days .ensures .short)
 
 same-length-2 : tie.Need-same-length-2
 same-length-2 c = search needs
 
 returns-2 : tie.Need-returns-2
 returns-2 c =
-    let lines = c .before .before in
-    accepted _ (passed (lines .before .before)) (lines .put-lines .ensures)
+    let line = c .before .before in
+    let list = line .before .before .before .before in
+    let v = of-list list in
+    let q = given (start (v .before)) in
+    let o = opened (v .before) in
+    accepted-lines q (o .passed)
+    (accepted q (o .passed) refl (table-is q o (v .values-at .ensures)) (o .day) (o .count) (list .list-days .ensures) (line .put-last-line .ensures) (start (v .before) .pre))
 
 pub put-answer-spec : {M : Type 1} → statement M
 put-answer-spec =
     tie.close
     (tie.spec
-    check-request-requires
-    enum-told
-    enum-told-2
+    open-requires
+    enum-known-opening
+    enum-known-refusal
     put-refused-line-requires
     same-length
     returns
-    put-lines-requires
+    values-at-requires
+    slice-aggregate-list-days
+    list-days-requires
+    put-last-line-requires
     same-length-2
     returns-2)

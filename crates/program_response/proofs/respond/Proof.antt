@@ -1,69 +1,48 @@
--- `program_response::respond` meets its contract: by the room of the page, and by question 13. Assumes nothing.
-use mathlib.Core.Path.{_≡_, sym, _∙_}
+-- `program_response::respond` meets its contract: the text is made on a page of its own, and put where it has room. Assumes nothing.
 use native.Mathlib.Omega.{arith}
 use borrow.Author.Needs.{needs}
-use Rattle.refusal.specs.declared.Verdict.the-variants.{Pass}
-use Rattle.program_input.specs.Input.{inputQuestion}
-use Rattle.program_input.proofs.Input.{complete}
-use Rattle.program_response.proofs.Printed.{too-small, written, input-refused, input-passed}
+use Rattle.program_response.proofs.Responding.{inside, first-bytes, responds}
 use Rattle.program_response.proofs.respond.Statement.{statement}
 use Rattle.program_response.proofs.respond.Tie as tie
 
--- question 13 passed
-abbrev of-input : tie.After-enum-told → tie.Else1
-of-input c = c .before .before .before
+slice-aggregate-put-text : tie.Need-slice-aggregate-put-text
+slice-aggregate-put-text c = search needs
 
-passed : (c : tie.After-enum-told) → inputQuestion (of-input c .before .before .before .args .input .now) ≡ Pass
-passed c = sym (c .before .before .input-question .ensures) ∙ c .enum-told .given .1
+put-text-requires : tie.Need-put-text-requires
+put-text-requires c κs = search needs
 
-returns : tie.Need-returns
-returns c = too-small _ _ (omega arith)
+sub-put-lines : tie.Need-sub-put-lines
+sub-put-lines c = search needs
 
-input-question-requires : tie.Need-input-question-requires
-input-question-requires c κs = search needs
+part-put-lines-start : tie.Need-part-put-lines-start
+part-put-lines-start c = search needs
 
-enum-told : tie.Need-enum-told
-enum-told c = search needs
+part-put-lines-end : tie.Need-part-put-lines-end
+part-put-lines-end c =
+    let text = c .before .before .put-text in
+    omega (arith, inside (text .ensures) (text .kept .1 .0))
 
-enum-told-2 : tie.Need-enum-told-2
-enum-told-2 c = search needs
-
-put-refused-line-requires : tie.Need-put-refused-line-requires
-put-refused-line-requires c κs = search needs
+put-lines-requires : tie.Need-put-lines-requires
+put-lines-requires c κs = search needs
 
 same-length : tie.Need-same-length
 same-length c = search needs
 
-returns-2 : tie.Need-returns-2
-returns-2 c =
-    let line = c .before .before in
-    let told = line .before .before .before in
-    let asked = told .before in
-    written _ _ (asked .before .if1 .left) (input-refused _ _ (asked .input-question .ensures) (told .match .keys2) (line .put-refused-line .ensures))
-
-answer-requires : tie.Need-answer-requires
-answer-requires c κs = (complete _ (passed (c .before)), of-input (c .before) .if1 .left)
-
-same-length-2 : tie.Need-same-length-2
-same-length-2 c = search needs
-
-returns-3 : tie.Need-returns-3
-returns-3 c =
-    let lines = c .before .before in
-    let told = lines .before .before in
-    written _ _ (of-input told .if1 .left) (input-passed _ _ (passed told) (lines .answer .ensures))
+returns : tie.Need-returns
+returns c =
+    let lines = c .before .before .put-lines in
+    let text = c .before .before .before .before .before .before .before .put-text in
+    responds _ _ (first-bytes (text .ensures)) (lines .ensures)
 
 pub respond-spec : {M : Type 1} → statement M
 respond-spec =
     tie.close
     (tie.spec
-    returns
-    input-question-requires
-    enum-told
-    enum-told-2
-    put-refused-line-requires
+    slice-aggregate-put-text
+    put-text-requires
+    sub-put-lines
+    part-put-lines-start
+    part-put-lines-end
+    put-lines-requires
     same-length
-    returns-2
-    answer-requires
-    same-length-2
-    returns-3)
+    returns)

@@ -1,4 +1,4 @@
--- `program_response::answer` meets its contract: the entries handed on are enough, and the rest of the request is the input's. Assumes nothing.
+-- `program_text::answer` meets its contract: the entries handed on are enough, and the rest of the request is the input's. Assumes nothing.
 use mathlib.Core.Path.{_≡_}
 use mathlib.Core.List.{List}
 use Prim.Native.Nat.{ℕ, _-_}
@@ -10,16 +10,13 @@ use Rattle.lists.proofs.Strides.{length-places}
 use Rattle.big_endian.specs.BigEndian.{longAt, longsFrom}
 use Rattle.program_input.specs.Input.{headLength, listLength}
 use Rattle.program_input.specs.Inside.{askedEntries, Listed}
-use Rattle.program_response.proofs.CutList.{whole}
-use Rattle.program_response.proofs.answer.Statement.{statement}
-use Rattle.program_response.proofs.answer.Tie as tie
+use Rattle.program_text.proofs.CutList.{whole}
+use Rattle.program_text.proofs.answer.Statement.{statement}
+use Rattle.program_text.proofs.answer.Tie as tie
 
--- the part of the table that is handed on
-entries : {input table after : List ℕ} {r : ℕ} → Listed input table r after → take (r - 0) (drop 0 after) ≡ longsFrom input (askedEntries (listLength input)) headLength
+-- the part of the list that is handed on
+entries : {input before after : List ℕ} {r : ℕ} → Listed input before r after → take (r - 0) (drop 0 after) ≡ longsFrom input (askedEntries (listLength input)) headLength
 entries {input} l = rw (l .count, l .entries, sub-zero) (take-at _ _ _ (length-places (longAt input) 4 _ _))
-
-head-of-requires : tie.Need-head-of-requires
-head-of-requires c κs = search needs
 
 slice-aggregate-read-list : tie.Need-slice-aggregate-read-list
 slice-aggregate-read-list c = search needs
@@ -50,14 +47,13 @@ returns c =
     let put = c .before .before in
     let file = put .before .before .before .before in
     let list = file .before .before in
-    let input = list .before .before .before .before .before .args .input .now in
-    whole input (list .before .before .head-of .ensures) (file .file-of .ensures) (entries (list .read-list .ensures)) (put .put-answer .ensures)
+    let start = list .before .before .before .before in
+    whole (start .args .input .now) (start .pre .0) (file .file-of .ensures) (entries (list .read-list .ensures)) (put .put-answer .ensures)
 
 pub answer-spec : {M : Type 1} → statement M
 answer-spec =
     tie.close
     (tie.spec
-    head-of-requires
     slice-aggregate-read-list
     read-list-requires
     file-of-requires

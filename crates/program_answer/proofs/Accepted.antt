@@ -18,7 +18,7 @@ use Rattle.program_lines.specs.Lines.{dayLines, lastLine}
 use Rattle.program_listing.specs.declared.Lines.{Lines}
 use Rattle.program_listing.specs.Inside.{Listed}
 use Rattle.program_listing.proofs.Listing.{last-line-short}
-use Rattle.program_request.specs.Accepted.{rowsOf, acceptedLines, pageLength}
+use Rattle.program_answer.specs.Accepted.{rowsOf, acceptedLines, pageLength}
 
 -- an accepted request, begun with carry 0
 module _ (q : Request) (passed : requestCheck q ≡ Pass) (none : q .carry ≡ 0) where

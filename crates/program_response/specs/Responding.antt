@@ -1,0 +1,31 @@
+-- Document 01, "The program": what the call that prints answers, and what it leaves on the lent page, accepted and refused.
+use mathlib.Core.List.{List}
+use Prim.Native.Nat.{ℕ}
+use lib.ListN.{length}
+use Rattle.refusal.specs.declared.Verdict.{Verdict}
+use Rattle.refusal.specs.declared.Verdict.the-variants.{Pass, Refused}
+use Rattle.refusal.specs.Questions.{refusalNumber, refusalPlace, roomQuestion, lentAfter}
+use Rattle.program_text.specs.Printed.{printed}
+use Rattle.program_response.specs.declared.Response.{Response}
+use Rattle.program_response.specs.declared.ResponseReport.{ResponseReport}
+
+-- 12. "Is the lent output long enough?": the bytes of the text are needed. The other questions' refusals are text themselves.
+abbrev pub pageQuestion : List ℕ → List ℕ → Verdict
+pageQuestion text page = roomQuestion (length text) (length page)
+
+-- the length of the text where it has room, else the refusal
+abbrev pub answered : Verdict → ℕ → Response
+answered Pass written = Response.Written written
+answered (Refused r) written = Response.Refused r
+
+abbrev pub responseTo : List ℕ → List ℕ → Response
+responseTo input page = answered (pageQuestion (printed input) page) (length (printed input))
+
+-- the lent page after the call
+abbrev pub pageAfter : List ℕ → List ℕ → List ℕ
+pageAfter input page = lentAfter (pageQuestion (printed input) page) (printed input) page
+
+-- the figures for each case of the answer; "A refusal gives number, place and zeros elsewhere"
+abbrev pub reported : Response → ResponseReport
+reported (Response.Written written) = record { number = 0; place = 0; length = written }
+reported (Response.Refused r) = record { number = refusalNumber r; place = refusalPlace r; length = 0 }
