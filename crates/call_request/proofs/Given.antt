@@ -23,7 +23,7 @@ use Rattle.file_group.specs.declared.Found.the-variants.{At}
 use Rattle.file_group.specs.Group.{groupIn, tableOf}
 use Rattle.file_group.specs.Inside.{valueBytes}
 use Rattle.file_group.proofs.Group.{table-length, table-bound, part-of, part-words}
-use Rattle.day_powers.specs.DayQuarters.{dayQuarters}
+use Rattle.day_powers.specs.DayQuarters.{basis, dayQuarters}
 use Rattle.series.specs.Inside.{GroupValues}
 use Rattle.series.specs.Series.{quartersOfDays}
 use Rattle.call_request.specs.Request.{Request, daysIn, quarters}
@@ -64,5 +64,5 @@ unfolding daysOf
 some-days q s e = omega (arith, s .period .ordered, e)
 
 -- the quarter hours of the group's values are the request's
-pub same-quarters : (q : Request) {values : List ℕ} {day : CalendarDay} {days : ℕ} → values ≡ tableOf (q .file) (q .group) → day ≡ calendarDay (dateOf (q .first)) → days ≡ daysIn q → quartersOfDays (dayQuarters values (q .group) (q .holidays)) days (day .date) ≡ quarters q
+pub same-quarters : (q : Request) {values : List ℕ} {day : CalendarDay} {days : ℕ} → values ≡ tableOf (q .file) (q .group) → day ≡ calendarDay (dateOf (q .first)) → days ≡ daysIn q → quartersOfDays (dayQuarters (basis values (q .group) (q .holidays))) days (day .date) ≡ quarters q
 same-quarters q v e f = rw (v, e, f)

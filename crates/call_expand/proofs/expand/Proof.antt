@@ -21,7 +21,7 @@ use Rattle.file_check.proofs.Check.{accepted}
 use Rattle.file_group.specs.declared.Found.the-variants.{At}
 use Rattle.file_group.specs.Group.{groupIn, tableOf}
 use Rattle.file_group.proofs.Group.{found-inside, check-found, check-missing}
-use Rattle.day_powers.specs.DayQuarters.{dayQuarters}
+use Rattle.day_powers.specs.DayQuarters.{basis, dayQuarters}
 use Rattle.series.specs.Series.{quartersOfDays}
 use Rattle.call_request.specs.Request.{Request, request, daysIn, quarters, series, requestCheck, outputQuestion}
 use Rattle.call_request.proofs.Request.{sound, series-length, entries-needed}
@@ -100,13 +100,13 @@ table c =
     let at = of-request (of-output (of-values c)) in
     table-is _ _ (file-passed (of-group at)) (found at) (c .values-at .ensures)
 
-quarters-are : (c : tie.After-values-at) → quartersOfDays (dayQuarters (c .values-at .result) (wanted c .group) (wanted c .holidays)) (of-values c .before .before .days-of .result) (of-values c .before .calendar-day .result .date) ≡ quarters (wanted c)
+quarters-are : (c : tie.After-values-at) → quartersOfDays (dayQuarters (basis (c .values-at .result) (wanted c .group) (wanted c .holidays))) (of-values c .before .before .days-of .result) (of-values c .before .calendar-day .result .date) ≡ quarters (wanted c)
 quarters-are c = same-quarters (wanted c) (table c) (day-is (of-values c .before)) (days-are (of-values c .before))
 
 room : (c : tie.After-values-at) → length (series (wanted c)) ≤ length (wanted c .output)
 room c = leb-true _ _ (ask-passed _ _ (sym (asked-output (of-values c)) ∙ c .before .enum-told6 .given .1))
 
-fits : (c : tie.After-values-at) → length (quartersOfDays (dayQuarters (c .values-at .result) (wanted c .group) (wanted c .holidays)) (of-values c .before .before .days-of .result) (of-values c .before .calendar-day .result .date)) ≤ length (wanted c .output)
+fits : (c : tie.After-values-at) → length (quartersOfDays (dayQuarters (basis (c .values-at .result) (wanted c .group) (wanted c .holidays))) (of-values c .before .before .days-of .result) (of-values c .before .calendar-day .result .date)) ≤ length (wanted c .output)
 fits c = omega (arith, ap length (quarters-are c), series-length (wanted c), room c)
 
 check-file-requires : tie.Need-check-file-requires
