@@ -21,7 +21,7 @@ use Rattle.file_layout.specs.Header.{layoutOf}
 use Rattle.file_group.specs.Group.{tableOf}
 use Rattle.file_group.specs.Inside.{valueBytes}
 use Rattle.file_group.proofs.Group.{Checked, check-passed, table-length, table-bound, FoundAt, part-words}
-use Rattle.day_powers.specs.DayQuarters.{dayQuarters}
+use Rattle.day_powers.specs.DayQuarters.{basis, dayQuarters}
 use Rattle.series.specs.Series.{quartersOfDays}
 use Rattle.series.specs.Inside.{GroupValues}
 use Rattle.call_request.specs.Request.{Request, daysIn, quarters, series, requestCheck}
@@ -98,5 +98,5 @@ module _ (q : Request) {o : Opening} (opened : OpenedFor q o) where
     pub group-values : GroupValues values
     group-values = rw table-is (table-values (q .file) (q .group) (opened .found .checked))
 
-    pub same-quarters : quartersOfDays (dayQuarters values (q .group) (q .holidays)) (o .days) (o .first .date) ≡ quarters q
+    pub same-quarters : quartersOfDays (dayQuarters (basis values (q .group) (q .holidays))) (o .days) (o .first .date) ≡ quarters q
     same-quarters = rw (table-is, opened .day, opened .count)

@@ -1,7 +1,6 @@
 -- What an accepted request is known to be, question by question, that such a request passes, and how long its series is. Assumes nothing.
 use mathlib.Core.Path.{_≡_, _∙_}
-use Prim.Native.Nat.{_≤_, _<_}
-use native.Mathlib.Omega.{arith}
+use Prim.Native.Nat.{_≤_}
 use lib.ListN.{length, length-map}
 use borrow.Author.Tests.{le-leb, leb-true}
 use Rattle.refusal.specs.declared.Verdict.the-variants.{Pass}
@@ -12,20 +11,21 @@ use Rattle.calendar_holidays.specs.Holidays.{holidaysQuestion}
 use Rattle.calendar_period.specs.Period.{periodCheck, valuesOfDays}
 use Rattle.calendar_period.proofs.Period.{Period, period-passed, period-passes}
 use Rattle.file_layout.specs.Header.{layoutOf}
-use Rattle.file_group.specs.Group.{check, tableOf}
+use Rattle.file_group.specs.Group.{check}
 use Rattle.file_group.proofs.Group.{table-length}
+use Rattle.carry.specs.Carry.{largestUse, largestCarry}
 use Rattle.carry.specs.Energy.{powers}
 use Rattle.carry.proofs.Carry.{length-figures}
 use Rattle.series.proofs.Series.{length-quarters}
-use Rattle.call_request.specs.Request.{Request, daysIn, quarters, series, useQuestion, carryQuestion, requestCheck}
+use Rattle.call_request.specs.Request.{Request, daysIn, basisOf, quarters, series, useQuestion, carryQuestion, requestCheck}
 
 -- questions 1 to 11 passed
 pub record Sound (q : Request) : Type 0 where
   pub file : check (q .file) (q .group) ≡ Pass
   pub period : Period (q .first) (q .last)
   pub holidays : holidaysQuestion (q .holidays) ≡ Pass
-  pub yearly : q .yearly ≤ 1_000_000_000
-  pub carry : q .carry < 40_000
+  pub yearly : q .yearly ≤ largestUse
+  pub carry : q .carry ≤ largestCarry
 
 module _ (q : Request) where
   pub sound : requestCheck q ≡ Pass → Sound q
@@ -39,18 +39,17 @@ module _ (q : Request) where
         file = then-first _ _ h;
         period = period-passed (q .first) (q .last) (then-first _ _ to-8);
         holidays = then-first _ _ to-9;
-        yearly = leb-true (q .yearly) 1_000_000_000 (ask-passed _ BadUse (then-first _ _ to-10));
-        carry = omega (arith, leb-true (q .carry) 39_999 (ask-passed _ BadCarry to-11));
+        yearly = leb-true (q .yearly) largestUse (ask-passed _ BadUse (then-first _ _ to-10));
+        carry = leb-true (q .carry) largestCarry (ask-passed _ BadCarry to-11);
       }
 
   pub passes : Sound q → requestCheck q ≡ Pass
   unfolding useQuestion carryQuestion
   passes s =
-      let c = s .carry in
       then-pass _ (s .file) ∙ then-pass _ (period-passes (q .first) (q .last) (s .period))
       ∙ then-pass _ (s .holidays)
-      ∙ then-pass _ (ask-yes BadUse (le-leb (q .yearly) 1_000_000_000 (s .yearly)))
-      ∙ ask-yes BadCarry (le-leb (q .carry) 39_999 (omega arith))
+      ∙ then-pass _ (ask-yes BadUse (le-leb (q .yearly) largestUse (s .yearly)))
+      ∙ ask-yes BadCarry (le-leb (q .carry) largestCarry (s .carry))
   -- question 12 passed too
 
 -- "entries needed"
@@ -63,4 +62,4 @@ module _ (q : Request) where
   unfolding layoutOf
   entries-needed =
       series-length
-      ∙ length-quarters (tableOf (q .file) (q .group)) (q .group) (q .holidays) (daysIn q) (dateOf (q .first)) (table-length (q .file) (q .group))
+      ∙ length-quarters (basisOf q) (daysIn q) (dateOf (q .first)) (table-length (q .file) (q .group))

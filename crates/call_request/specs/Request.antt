@@ -9,10 +9,11 @@ use Rattle.refusal.specs.Questions.{ask, _then_}
 use Rattle.calendar_dates.specs.Dates.{dateOf}
 use Rattle.calendar_holidays.specs.Holidays.{holidaysQuestion}
 use Rattle.calendar_period.specs.Period.{daysOf, periodCheck}
-use Rattle.file_group.specs.Group.{check}
+use Rattle.file_group.specs.Group.{check, tableOf}
 use Rattle.carry.specs.Energy.{Quarter, powers}
-use Rattle.carry.specs.Carry.{figures}
-use Rattle.series.specs.Series.{quartersOf}
+use Rattle.carry.specs.Carry.{largestUse, largestCarry, figures}
+use Rattle.day_powers.specs.DayQuarters.{Basis, basis, dayQuarters}
+use Rattle.series.specs.Series.{quartersOfDays}
 
 -- what a call is given: the lent file, the wanted group, first and last date, the holiday list, the yearly use A in kWh, the carry
 -- and the lent output as it was before
@@ -43,20 +44,24 @@ request file group first last holidays yearly carry output =
 abbrev pub daysIn : Request → ℕ
 daysIn q = daysOf (dateOf (q .first)) (dateOf (q .last))
 
+-- what its quarter hours are made from
+abbrev pub basisOf : Request → Basis
+basisOf q = basis (tableOf (q .file) (q .group)) (q .group) (q .holidays)
+
 -- the period's quarter hours, and the series: their figures
 abbrev pub quarters : Request → List Quarter
-quarters q = quartersOf (q .file) (q .group) (q .holidays) (daysIn q) (dateOf (q .first))
+quarters q = quartersOfDays (dayQuarters (basisOf q)) (daysIn q) (dateOf (q .first))
 
 unfoldable pub series : Request → List ℕ
 series q = figures (q .yearly) (powers (quarters q)) (q .carry)
 
 -- 10. "Is A within its range?": "whole kWh, 0 to 1,000,000,000"
 unfoldable pub useQuestion : ℕ → Verdict
-useQuestion yearly = ask (leb yearly 1_000_000_000) BadUse
+useQuestion yearly = ask (leb yearly largestUse) BadUse
 
 -- 11. "Is the carry within its range?": "0 to 39,999"
 unfoldable pub carryQuestion : ℕ → Verdict
-carryQuestion carry = ask (leb carry 39_999) BadCarry
+carryQuestion carry = ask (leb carry largestCarry) BadCarry
 
 -- what is asked of the file and the group, ahead of the period: questions 1 to 6
 abbrev pub aheadOfPeriod : List ℕ → ℕ → Verdict

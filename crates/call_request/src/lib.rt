@@ -12,7 +12,7 @@ ghost use Rattle.call_request.specs.Request.{useQuestion, carryQuestion,
 fn use_question(yearly: u32) -> Verdict
     ensures { λ r. ⌜ r ≡ useQuestion yearly ⌝ }
 {
-    if 1_000_000_000 < yearly {
+    if carry::LARGEST_USE < yearly {
         return Verdict::Refused(Refusal::BadUse);
     }
     Verdict::Pass
@@ -22,7 +22,7 @@ fn use_question(yearly: u32) -> Verdict
 fn carry_question(carry: u32) -> Verdict
     ensures { λ r. ⌜ r ≡ carryQuestion carry ⌝ }
 {
-    if 39_999 < carry {
+    if carry::LARGEST_CARRY < carry {
         return Verdict::Refused(Refusal::BadCarry);
     }
     Verdict::Pass

@@ -11,16 +11,16 @@ use Rattle.calendar_dates.specs.Dates.{dateOf}
 use Rattle.calendar_period.specs.Inside.{calendarDay}
 use Rattle.calendar_period.proofs.Period.{values-small}
 use Rattle.file_group.proofs.Group.{checked}
-use Rattle.carry.specs.Carry.{figures}
+use Rattle.carry.specs.Carry.{largestUse, largestCarry, figures}
 use Rattle.carry.specs.Energy.{powers}
 use Rattle.series.proofs.DayByDay.{Small, all-small, whole-fits}
-use Rattle.call_request.specs.Request.{daysIn, quarters, series}
+use Rattle.call_request.specs.Request.{daysIn, basisOf, quarters, series}
 use Rattle.call_request.proofs.Request.{sound, entries-needed}
 use Rattle.call_request.proofs.Given.{table-values, real-days}
 use Rattle.call_request_laws.specs.Fits.{FiguresFit, LongestSeries}
 
 -- small powers make small figures
-figures-small : (yearly : ℕ) (ps : List ℕ) (carry : ℕ) → yearly ≤ 10 ^ 9 → carry < 40_000 → Small ps → Each (λ figure. figure < 2 ^ 32) (figures yearly ps carry)
+figures-small : (yearly : ℕ) (ps : List ℕ) (carry : ℕ) → yearly ≤ largestUse → carry ≤ largestCarry → Small ps → Each (λ figure. figure < 2 ^ 32) (figures yearly ps carry)
 unfolding figures
 figures-small yearly [] carry a b s = tt
 figures-small yearly (p ∷ ps) carry a b s =
@@ -35,8 +35,8 @@ figures-fit q h =
     let values = table-values (q .file) (q .group) (found .passed) (found .at) in
     let day = calendarDay (dateOf (q .first)) in
     let real = real-days q day (daysIn q) s refl refl in (
-      figures-small (q .yearly) (powers (quarters q)) (q .carry) (s .yearly) (s .carry) (all-small values (q .group) (q .holidays) (daysIn q) (dateOf (q .first)) (real .all)),
-      whole-fits values (q .group) (q .holidays) {first = day} (record { yearlySmall = s .yearly; carrySmall = s .carry }) real,
+      figures-small (q .yearly) (powers (quarters q)) (q .carry) (s .yearly) (s .carry) (all-small (basisOf q) values (daysIn q) (dateOf (q .first)) (real .all)),
+      whole-fits (basisOf q) values {first = day} (record { yearlySmall = s .yearly; carrySmall = s .carry }) real,
     )
 
 pub longest-series : LongestSeries

@@ -2,13 +2,13 @@
 -- Assumes nothing.
 use mathlib.Core.Path.{_≡_, refl, _∙_, ap}
 use mathlib.Core.List.{List, [], _∷_, _++_}
-use Prim.Native.Nat.{ℕ, zero, suc, _+_, _*_, _/_, _%_, _<_}
+use Prim.Native.Nat.{ℕ, zero, suc, _+_, _*_, _/_, _%_, _≤_}
 use native.Mathlib.Omega.{arith}
 use native.Mathlib.Nat.{mul-add, mul-comm, mul-zero}
 use lib.ListN.{length, take, drop}
 use Rattle.lists.specs.Lists.{sum}
 use Rattle.lists.proofs.Sums.{sum-append}
-use Rattle.carry.specs.Carry.{figures, lastCarry, EveryCut}
+use Rattle.carry.specs.Carry.{largestCarry, figures, lastCarry, EveryCut}
 
 pub figures-append : (yearly : ℕ) (first second : List ℕ) (carry : ℕ) → figures yearly (first ++ second) carry ≡ figures yearly first carry ++ figures yearly second (lastCarry yearly first carry)
 unfolding figures lastCarry
@@ -26,7 +26,7 @@ unfolding figures
 length-figures yearly [] carry = refl
 length-figures yearly (p ∷ powers) carry = omega (arith, length-figures yearly powers ((p * yearly + carry) % 40_000))
 
-pub carry-small : (yearly carry : ℕ) (powers : List ℕ) → carry < 40_000 → lastCarry yearly powers carry < 40_000
+pub carry-small : (yearly carry : ℕ) (powers : List ℕ) → carry ≤ largestCarry → lastCarry yearly powers carry ≤ largestCarry
 unfolding lastCarry
 carry-small yearly carry [] h = h
 carry-small yearly carry (p ∷ powers) h = carry-small yearly ((p * yearly + carry) % 40_000) powers (omega arith)

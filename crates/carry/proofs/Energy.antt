@@ -9,7 +9,7 @@ use native.Mathlib.Nat.{mul-add, mul-assoc, mul-left-comm, mul-le-mul-left}
 use lib.ListN.{length}
 use Rattle.lists.specs.Lists.{sum, Each}
 use Rattle.carry.specs.Energy.{Quarter, powers, values, products, exactSum, Rounded, Within, householdBound, otherBound, Unrounded, Bounded}
-use Rattle.carry.specs.Carry.{figures}
+use Rattle.carry.specs.Carry.{largestCarry, figures}
 use Rattle.carry.proofs.Carry.{carry-small, telescope}
 
 -- the roundings of a run
@@ -29,7 +29,7 @@ same [] e = refl
 same (q ∷ run) e = omega (arith, e .0, same run (e .1))
 
 -- the carry costs less than 1 Wh: for any sum `exact` that lies within `slack` of the powers' products
-carried : (yearly carry exact slack : ℕ) (run : List Quarter) → carry < 40_000 →
+carried : (yearly carry exact slack : ℕ) (run : List Quarter) → carry ≤ largestCarry →
     yearly * (sum (powers run) * 10 ^ 12) ≤ exact + slack →
     exact ≤ yearly * (sum (powers run) * 10 ^ 12) + slack →
     (4 * 10 ^ 16 * sum (figures yearly (powers run) carry) < exact + (4 * 10 ^ 16 + slack))
@@ -51,7 +51,7 @@ spread yearly exact slots total =
       mul-left-comm yearly (5 * 10 ^ 7) total,
     )
 
-household : (yearly carry : ℕ) (run : List Quarter) → carry < 40_000 → Each Rounded run → Within (householdBound yearly run) (exactSum yearly run) (sum (figures yearly (powers run) carry))
+household : (yearly carry : ℕ) (run : List Quarter) → carry ≤ largestCarry → Each Rounded run → Within (householdBound yearly run) (exactSum yearly run) (sum (figures yearly (powers run) carry))
 household yearly carry run h e =
     let n = length run in
     let v = sum (values run) in
@@ -63,7 +63,7 @@ household yearly carry run h e =
     let both = carried yearly carry (yearly * p) slack run h above below in
     record { above = both .0; below = both .1 }
 
-other : (yearly carry : ℕ) (run : List Quarter) → carry < 40_000 → Each Unrounded run → Within otherBound (exactSum yearly run) (sum (figures yearly (powers run) carry))
+other : (yearly carry : ℕ) (run : List Quarter) → carry ≤ largestCarry → Each Unrounded run → Within otherBound (exactSum yearly run) (sum (figures yearly (powers run) carry))
 other yearly carry run h e =
     let p = sum (products run) in
     let s = sum (powers run) * 10 ^ 12 in

@@ -1,8 +1,16 @@
 -- Document 01, "Series and carry": the figures that powers Q make with a yearly use A, and the carry they leave.
 use mathlib.Core.Path.{_≡_}
 use mathlib.Core.List.{List, [], _∷_, _++_}
-use Prim.Native.Nat.{ℕ, _+_, _*_, _/_, _%_, _<_}
+use Prim.Native.Nat.{ℕ, _+_, _*_, _/_, _%_, _≤_}
 use Rattle.lists.specs.Lists.{sum}
+
+-- "Yearly use A is in whole kWh, 0 to 1,000,000,000"
+abbrev pub largestUse : ℕ
+largestUse = 1_000_000_000
+
+-- "The carry is 0 to 39,999"
+abbrev pub largestCarry : ℕ
+largestCarry = 39_999
 
 -- "Each quarter hour takes Q × A + carry, gives the quotient by 40,000 as its figure in Wh, and keeps the remainder as the next
 -- carry."
@@ -25,4 +33,4 @@ pub record Joined (yearly carry : ℕ) (first second : List ℕ) : Type 0 where
 unfoldable pub EveryCut : Type 0
 EveryCut =
     ((yearly carry : ℕ) (first second : List ℕ) → Joined yearly carry first second)
-    × ((yearly carry : ℕ) (powers : List ℕ) → carry < 40_000 → lastCarry yearly powers carry < 40_000)
+    × ((yearly carry : ℕ) (powers : List ℕ) → carry ≤ largestCarry → lastCarry yearly powers carry ≤ largestCarry)

@@ -5,7 +5,7 @@ use mathlib.Core.List.{List, map}
 use Prim.Native.Nat.{ℕ, _+_, _*_, _^_, _≤_, _<_}
 use lib.ListN.{length}
 use Rattle.lists.specs.Lists.{sum, Each}
-use Rattle.carry.specs.Carry.{figures}
+use Rattle.carry.specs.Carry.{largestCarry, figures}
 
 -- a quarter hour: the value P of its position, the X of its day, and the power Q made of both
 pub record Quarter : Type 0 where
@@ -56,6 +56,6 @@ Unrounded q = q .power * 10 ^ 12 ≡ q .value * q .exact
 -- the theorem: whatever carry a run begins with, its sum keeps to its bound. Proved in proofs/Energy.antt.
 unfoldable pub Bounded : Type 0
 Bounded =
-    (yearly carry : ℕ) (run : List Quarter) → carry < 40_000 →
+    (yearly carry : ℕ) (run : List Quarter) → carry ≤ largestCarry →
     (Each Rounded run → Within (householdBound yearly run) (exactSum yearly run) (sum (figures yearly (powers run) carry)))
     × (Each Unrounded run → Within otherBound (exactSum yearly run) (sum (figures yearly (powers run) carry)))

@@ -28,11 +28,11 @@ pub remainder-of : (parts : ℕ) → parts % 274_877_906_944 * 40_000 / 274_877_
 unfolding sumOf
 remainder-of parts = omega (arith, quotient-of parts)
 
-pub first-sum : (carry : ℕ) → carry < 40_000 → sumOf (scaled carry) ≡ carry
+pub first-sum : (carry : ℕ) → carry ≤ 39_999 → sumOf (scaled carry) ≡ carry
 unfolding sumOf
 first-sum carry h = omega arith
 
-pub first-excess : (carry : ℕ) → carry < 40_000 → excess (scaled carry) ≤ 39_999
+pub first-excess : (carry : ℕ) → carry ≤ 39_999 → excess (scaled carry) ≤ 39_999
 unfolding sumOf excess
 first-excess carry h = omega (arith, first-sum carry h)
 

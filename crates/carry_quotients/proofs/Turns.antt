@@ -8,7 +8,7 @@ use native.Mathlib.Numerals.{add-one}
 use lib.ListN.{length, getD, set}
 use lib.Seq.{sets, slice, slice-cons, slice-empty}
 use Rattle.lists.specs.Lists.{sum}
-use Rattle.carry.specs.Carry.{figures, lastCarry}
+use Rattle.carry.specs.Carry.{largestCarry, figures, lastCarry}
 use Rattle.carry_quotients.specs.declared.Carried.{Carried}
 use Rattle.carry_quotients.specs.Inside.{RangeCarried}
 
@@ -19,7 +19,7 @@ pub record Left (powers : List ℕ) (yearly carry : ℕ) (before : List ℕ) (at
   pub totalLeft : total + sum (figures yearly left (s % 40_000)) ≡ sum (figures yearly powers carry)
   pub carryLeft : lastCarry yearly left (s % 40_000) ≡ lastCarry yearly powers carry
 
-pub start : (powers : List ℕ) (yearly carry : ℕ) (before : List ℕ) (at : ℕ) → carry < 40_000 → Left powers yearly carry before at powers carry 0 before at
+pub start : (powers : List ℕ) (yearly carry : ℕ) (before : List ℕ) (at : ℕ) → carry ≤ largestCarry → Left powers yearly carry before at powers carry 0 before at
 start powers yearly carry before at h =
     let kept : carry % 40_000 ≡ carry = omega arith in
     record { quotient = omega arith; figuresLeft = rw kept; totalLeft = rw kept (omega arith); carryLeft = rw kept }

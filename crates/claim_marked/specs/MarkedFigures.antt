@@ -12,7 +12,7 @@ use Rattle.calendar_days.specs.ClockChanges.{ClockChanges}
 use Rattle.calendar_period.specs.Period.{valuesOfDays}
 use Rattle.dynamisation.specs.Dynamisation.{X, F, Q}
 use Rattle.carry.specs.Carry.{figures, lastCarry}
-use Rattle.day_powers.specs.DayQuarters.{dayQuarters}
+use Rattle.day_powers.specs.DayQuarters.{Basis, dayQuarters}
 use Rattle.series.specs.Series.{quartersOfDays}
 
 -- "X and F" of the households, group code 0
@@ -33,8 +33,8 @@ pub record DayIs (date weekday : ℕ) (s : Season) (d : DayType) : Type 0 where
 -- how many quarter hours the series of some days from a date on has, whatever the group, its 864 values and the list
 abbrev pub SeriesHas : ℕ → ℕ → ℕ → Type 0
 SeriesHas days date count =
-    (values : List ℕ) (group : ℕ) (holidays : List ℕ) → length values ≡ 864 →
-    length (quartersOfDays (dayQuarters values group holidays) days (dateOf date)) ≡ count
+    (b : Basis) → length (b .values) ≡ 864 →
+    length (quartersOfDays (dayQuarters b) days (dateOf date)) ≡ count
 
 pub record MarkedFigures : Type 0 where
   pub t-1 : Factor 1 1_242_030_119_608 12_420

@@ -15,6 +15,7 @@ use Rattle.calendar_holidays.specs.Holidays.{holidaysQuestion}
 use Rattle.calendar_period.specs.Period.{daysOf}
 use Rattle.calendar_period.proofs.Period.{Period, period-passed, period-passes}
 use Rattle.calendar_laws.proofs.Periods.{period-days}
+use Rattle.carry.specs.Carry.{largestUse, largestCarry}
 use Rattle.call_request.specs.Request.{Request, useQuestion, carryQuestion, aheadOfPeriod, behindPeriod, requestCheck, outputQuestion}
 use Rattle.call_request.proofs.Request.{Sound, sound}
 use Rattle.call_expansion.specs.Answered.{answered}
@@ -63,8 +64,8 @@ behind-passes whole piece s p =
     let carry = p .carryInRange in
     let holidays : holidaysQuestion (piece .holidays) ≡ holidaysQuestion (whole .holidays) = ap (λ (x : Common). holidaysQuestion (x .holidays)) (p .same) in
     let yearly : piece .yearly ≡ whole .yearly = ap (λ (x : Common). x .yearly) (p .same) in
-    then-pass _ (holidays ∙ s .holidays) ∙ then-pass _ (ask-yes BadUse (le-leb (piece .yearly) 1_000_000_000 (rw yearly (s .yearly))))
-    ∙ ask-yes BadCarry (le-leb (piece .carry) 39_999 (omega arith))
+    then-pass _ (holidays ∙ s .holidays) ∙ then-pass _ (ask-yes BadUse (le-leb (piece .yearly) largestUse (rw yearly (s .yearly))))
+    ∙ ask-yes BadCarry (le-leb (piece .carry) largestCarry (omega arith))
 
 -- questions 1 to 11
 others-pass : (whole piece : Request) → requestCheck whole ≡ Pass → Piece whole piece → requestCheck piece ≡ Pass

@@ -1,6 +1,6 @@
 -- Any run of the joined figures keeps to its bound: a run's figures are those of its own quarter hours, begun with the carry that
 -- the ones before leave, and each quarter hour is rounded as its day's are. Assumes nothing.
-use mathlib.Core.Path.{_≡_, refl, _∙_, ap}
+use mathlib.Core.Path.{_≡_, refl, sym, _∙_, ap}
 use mathlib.Core.Bool.{cond}
 use mathlib.Core.List.{List, [], _∷_}
 use Prim.Native.Nat.{ℕ, zero, suc, _≤_, _<_}
@@ -15,15 +15,14 @@ use Rattle.calendar_dates.specs.declared.Date.{Date}
 use Rattle.calendar_dates.specs.Dates.{dateOf, dayOfYear, daysLater}
 use Rattle.calendar_dates.proofs.Dates.{leap-small, day-of-year-range}
 use Rattle.calendar_laws.proofs.Periods.{period-days}
-use Rattle.file_group.specs.Group.{tableOf}
-use Rattle.carry.specs.Carry.{figures, lastCarry}
+use Rattle.carry.specs.Carry.{largestCarry, figures, lastCarry}
 use Rattle.carry.specs.Energy.{Quarter, powers, exactSum, Rounded, Within, householdBound, otherBound, Unrounded, Bounded}
 use Rattle.carry.proofs.Carry.{carry-small, figures-take, figures-drop}
 use Rattle.carry.proofs.Energy.{bounded}
-use Rattle.day_powers.specs.DayQuarters.{dayQuarters}
+use Rattle.day_powers.specs.DayQuarters.{Basis, basis, dayQuarters}
 use Rattle.day_powers.proofs.DayQuarters.{day-rounded, day-undynamised}
 use Rattle.series.proofs.Series.{each-quarter}
-use Rattle.call_request.specs.Request.{Request, daysIn, quarters}
+use Rattle.call_request.specs.Request.{Request, daysIn, basisOf, quarters}
 use Rattle.call_request.proofs.Request.{Sound}
 use Rattle.claim_successive.specs.SuccessiveCalls.{Call, carryAfter, Common, Successive, run}
 use Rattle.claim_successive.proofs.Whole.{allQuarters}
@@ -46,18 +45,20 @@ on-day q s k h =
 -- how an accepted request's quarter hours are rounded
 quarters-rounded : (q : Request) → Sound q → Each Rounded (quarters q)
 quarters-rounded q s =
-    let values = tableOf (q .file) (q .group) in
-    each-quarter (dayQuarters values (q .group) (q .holidays)) Rounded (daysIn q) (dateOf (q .first))
-    (λ k h. let t = on-day q s k h in day-rounded values (q .group) (q .holidays) (daysLater k (dateOf (q .first))) (t .0) (t .1))
+    each-quarter (dayQuarters (basisOf q)) Rounded (daysIn q) (dateOf (q .first))
+    (λ k h. let t = on-day q s k h in day-rounded (basisOf q) (daysLater k (dateOf (q .first))) (t .0) (t .1))
 
-day-not-dynamised : (values : List ℕ) (group above : ℕ) (holidays : List ℕ) (d : Date) → group ≡ suc above → Each Unrounded (dayQuarters values group holidays d)
-day-not-dynamised values group above holidays d e = rw e (day-undynamised values above holidays d)
+day-not-dynamised : (b : Basis) (above : ℕ) (d : Date) → b .group ≡ suc above → Each Unrounded (dayQuarters b d)
+day-not-dynamised b above d e =
+    ap-each (sym e) (day-undynamised (b .values) above (b .holidays) d)
+  where
+    ap-each : {group : ℕ} → suc above ≡ group → Each Unrounded (dayQuarters (basis (b .values) (suc above) (b .holidays)) d) → Each Unrounded (dayQuarters (basis (b .values) group (b .holidays)) d)
+    ap-each h a = rw h at a
 
 quarters-undynamised : (q : Request) (above : ℕ) → q .group ≡ suc above → Each Unrounded (quarters q)
 quarters-undynamised q above e =
-    let values = tableOf (q .file) (q .group) in
-    each-quarter (dayQuarters values (q .group) (q .holidays)) Unrounded (daysIn q) (dateOf (q .first))
-    (λ k h. day-not-dynamised values (q .group) above (q .holidays) (daysLater k (dateOf (q .first))) e)
+    each-quarter (dayQuarters (basisOf q)) Unrounded (daysIn q) (dateOf (q .first))
+    (λ k h. day-not-dynamised (basisOf q) above (daysLater k (dateOf (q .first))) e)
 
 -- and those of successive requests
 all-have : (property : Quarter → Type 0) (calls : List Call) → Each (λ c. Each property (quarters (c .given))) calls → Each property (allQuarters calls)
@@ -78,14 +79,14 @@ all-undynamised common carry group (c ∷ calls) e s = (
 )
 
 -- the bound of a run of quarter hours, by the group
-module _ (common : Common) (start : ℕ) (calls : List Call) (small : start < 40_000) (e : Each (λ c. Sound (c .given)) calls) (s : Successive common start calls) (k n : ℕ) where
+module _ (common : Common) (start : ℕ) (calls : List Call) (small : start ≤ largestCarry) (e : Each (λ c. Sound (c .given)) calls) (s : Successive common start calls) (k n : ℕ) where
   part : List Quarter
   part = run k n (allQuarters calls)
 
   begun : ℕ
   begun = lastCarry (common .yearly) (take k (powers (allQuarters calls))) start
 
-  in-range : begun < 40_000
+  in-range : begun ≤ largestCarry
   unfolding begun
   in-range = carry-small (common .yearly) start (take k (powers (allQuarters calls))) small
 

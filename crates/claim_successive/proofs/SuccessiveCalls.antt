@@ -2,13 +2,13 @@
 use mathlib.Core.Path.{_≡_, refl, sym, _∙_, ap}
 use mathlib.Core.Bool.{true}
 use mathlib.Core.List.{List, [], _∷_}
-use Prim.Native.Nat.{ℕ, _<_}
+use Prim.Native.Nat.{ℕ, _≤_}
 use lib.ListN.{length}
 use Rattle.lists.specs.Lists.{sum, Each}
 use Rattle.refusal.specs.declared.Verdict.{Verdict}
 use Rattle.refusal.specs.declared.Verdict.the-variants.{Pass, Refused}
 use Rattle.refusal.specs.Questions.{onPass}
-use Rattle.carry.specs.Carry.{figures, lastCarry}
+use Rattle.carry.specs.Carry.{largestCarry, figures, lastCarry}
 use Rattle.carry.specs.Energy.{Quarter, powers}
 use Rattle.carry.proofs.Carry.{carry-small}
 use Rattle.call_request.specs.Request.{Request, quarters, series}
@@ -70,7 +70,7 @@ all-defined : (calls : List Call) → Each ByContract calls → Each AsDefined c
 all-defined [] e = tt
 all-defined (c ∷ calls) e = (as-defined c (e .0), all-defined calls (e .1))
 
-joined : (common : Common) (start : ℕ) (calls : List Call) → start < 40_000 → Each ByContract calls → Successive common start (accepted calls) → JoinedCalls common start calls
+joined : (common : Common) (start : ℕ) (calls : List Call) → start ≤ largestCarry → Each ByContract calls → Successive common start (accepted calls) → JoinedCalls common start calls
 joined common start calls small e s =
     let c = comes-to common start calls e s in
     let sound = each-sound calls e in

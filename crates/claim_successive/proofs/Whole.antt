@@ -13,8 +13,8 @@ use Rattle.calendar_period.specs.Period.{daysOf}
 use Rattle.calendar_laws.proofs.Periods.{period-days}
 use Rattle.file_group.specs.Group.{tableOf}
 use Rattle.carry.specs.Energy.{Quarter}
-use Rattle.day_powers.specs.DayQuarters.{dayQuarters}
-use Rattle.series.specs.Series.{quartersOf}
+use Rattle.day_powers.specs.DayQuarters.{Basis, basis, dayQuarters}
+use Rattle.series.specs.Series.{quartersOfDays}
 use Rattle.series.proofs.Series.{quarters-add}
 use Rattle.call_request.specs.Request.{Request, daysIn, quarters}
 use Rattle.call_request.proofs.Request.{Sound}
@@ -25,8 +25,11 @@ use Rattle.claim_successive.proofs.Chain.{accepted-yes, accepted-no, qu
 use Rattle.claim_successive.proofs.Answers.{took}
 
 -- the quarter hours of n days, in what the calls have in common
+abbrev basisIn : Common → Basis
+basisIn common = basis (tableOf (common .file) (common .group)) (common .group) (common .holidays)
+
 abbrev pub quartersIn : Common → ℕ → Date → List Quarter
-quartersIn common n d = quartersOf (common .file) (common .group) (common .holidays) n d
+quartersIn common n d = quartersOfDays (dayQuarters (basisIn common)) n d
 
 pub quarters-in : (q : Request) (common : Common) → commonOf q ≡ common → quarters q ≡ quartersIn common (daysIn q) (dateOf (q .first))
 quarters-in q common e = ap (λ (x : Common). quartersIn x (daysIn q) (dateOf (q .first))) e
@@ -47,8 +50,7 @@ module _ (common : Common) (first last end : Date) (p : isDate first ≡ true) (
 
   two-periods : quartersIn common (daysOf first last) first ++ quartersIn common (daysOf (nextDay last) end) (nextDay last) ≡ quartersIn common (daysOf first end) first
   two-periods =
-      let day = dayQuarters (tableOf (common .file) (common .group)) (common .group) (common .holidays) in
-      rw (days-add, quarters-add day (daysOf first last) (daysOf (nextDay last) end) first, after-last first last p q h)
+      rw (days-add, quarters-add (dayQuarters (basisIn common)) (daysOf first last) (daysOf (nextDay last) end) first, after-last first last p q h)
 
   in-order : dayNumber first ≤ dayNumber end
   in-order = omega (arith, next-day-counts last q .counts)

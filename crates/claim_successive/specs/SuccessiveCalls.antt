@@ -2,7 +2,7 @@
 use mathlib.Core.Path.{_≡_}
 use mathlib.Core.Bool.{true, cond}
 use mathlib.Core.List.{List, [], _∷_, _++_}
-use Prim.Native.Nat.{ℕ, _+_, _<_}
+use Prim.Native.Nat.{ℕ, _+_, _≤_}
 use lib.Dec.{eqb}
 use lib.ListN.{length, take, drop}
 use Rattle.lists.specs.Lists.{sum, Each}
@@ -10,7 +10,7 @@ use Rattle.refusal.specs.declared.Verdict.the-variants.{Pass}
 use Rattle.refusal.specs.Questions.{onPass}
 use Rattle.calendar_dates.specs.Dates.{dateOf, nextDay}
 use Rattle.carry.specs.Energy.{Quarter, powers, exactSum, Within, householdBound, otherBound}
-use Rattle.carry.specs.Carry.{figures, lastCarry}
+use Rattle.carry.specs.Carry.{largestCarry, figures, lastCarry}
 use Rattle.call_request.specs.Request.{Request, quarters, series, requestCheck, outputQuestion}
 use Rattle.call_expansion.specs.declared.ExpansionReport.{ExpansionReport}
 use Rattle.call_expansion.specs.Answered.{answered, reported}
@@ -152,7 +152,7 @@ pub record JoinedCalls (common : Common) (start : ℕ) (calls : List Call) : Typ
   pub countsAre : addedCounts calls ≡ length (joinedFigures calls)
   pub totalsAre : addedTotals calls ≡ sum (joinedFigures calls)
   pub carryIs : carryAfterAll start calls ≡ lastCarry (common .yearly) (powers (joinedQuarters calls)) start
-  pub carryInRange : carryAfterAll start calls < 40_000
+  pub carryInRange : carryAfterAll start calls ≤ largestCarry
   pub within : (k n : ℕ) → RunWithin common calls k n
 
 -- A piece.
@@ -162,7 +162,7 @@ pub record JoinedCalls (common : Common) (start : ℕ) (calls : List Call) : Typ
 pub record Piece (whole piece : Request) : Type 0 where
   pub days : PieceOfPeriod (whole .first) (whole .last) (piece .first) (piece .last)
   pub same : commonOf piece ≡ commonOf whole
-  pub carryInRange : piece .carry < 40_000
+  pub carryInRange : piece .carry ≤ largestCarry
 
 -- "it passes every question but 12, and 12 where its own output is long enough"
 pub record OutputAlone (piece : Request) : Type 0 where
@@ -173,6 +173,6 @@ pub record OutputAlone (piece : Request) : Type 0 where
 unfoldable pub SuccessiveCalls : Type 0
 SuccessiveCalls =
     ((common : Common) (start : ℕ) (calls : List Call) →
-    start < 40_000 → Each ByContract calls → Successive common start (accepted calls) → JoinedCalls common start calls)
+    start ≤ largestCarry → Each ByContract calls → Successive common start (accepted calls) → JoinedCalls common start calls)
     × ((whole : Call) (piece : Request) → ByContract whole → isAccepted (whole .answer) ≡ true → Piece (whole .given) piece → OutputAlone piece)
     × ExpandReports

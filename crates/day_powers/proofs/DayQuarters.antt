@@ -24,7 +24,7 @@ use Rattle.dynamisation_laws.proofs.Rounding.{roundings}
 use Rattle.carry.specs.Energy.{Quarter, powers, Rounded, Unrounded}
 use Rattle.day_powers.specs.DayTable.{tableIndex, tableAt, dayValues}
 use Rattle.day_powers.specs.Inside.{powersBy}
-use Rattle.day_powers.specs.DayQuarters.{quarter, dayQuarters}
+use Rattle.day_powers.specs.DayQuarters.{Basis, basis, quarter, dayQuarters}
 use Rattle.day_powers.proofs.DayTable.{places, length-table, getD-powers}
 
 module _ {A : Type 0} (property : A → Type 0) where
@@ -58,17 +58,17 @@ length-day-values values holidays d h =
     let both = places (season d) (dayType d holidays) in
     length-table (tableIndex (season d) (dayType d holidays)) values (omega arith)
 
-module _ (values : List ℕ) (group : ℕ) (holidays : List ℕ) (d : Date) where
-  pub length-day-quarters : length values ≡ 864 → length (dayQuarters values group holidays d) ≡ valuesUnder (clock d)
+module _ (b : Basis) (d : Date) where
+  pub length-day-quarters : length (b .values) ≡ 864 → length (dayQuarters b d) ≡ valuesUnder (clock d)
   unfolding dayQuarters CountedPositions
   length-day-quarters h =
-      counted-positions Quarter (clock d) _ (length-map (dayValues values holidays d) _ ∙ length-day-values values holidays d h)
+      counted-positions Quarter (clock d) _ (length-map (dayValues (b .values) (b .holidays) d) _ ∙ length-day-values (b .values) (b .holidays) d h)
 
-  pub day-powers-positions : powers (dayQuarters values group holidays d) ≡ positions (clock d) (powersBy (F group (dayOfYear d)) (dayValues values holidays d))
+  pub day-powers-positions : powers (dayQuarters b d) ≡ positions (clock d) (powersBy (F (b .group) (dayOfYear d)) (dayValues (b .values) (b .holidays) d))
   unfolding dayQuarters
   day-powers-positions =
       map-positions (λ q. q .power) (clock d) _
-      ∙ ap (positions (clock d)) (map-map (λ q. q .power) (quarter group (dayOfYear d)) (dayValues values holidays d))
+      ∙ ap (positions (clock d)) (map-map (λ q. q .power) (quarter (b .group) (dayOfYear d)) (dayValues (b .values) (b .holidays) d))
 
 -- the roundings of a quarter hour: its own, and that of F times P
 rounded : (group t p : ℕ) → 1 ≤ t → t ≤ 366 → Rounded (quarter group t p)
@@ -86,15 +86,16 @@ undynamised : (group t p : ℕ) → Unrounded (quarter (suc group) t p)
 unfolding Roundings X
 undynamised group t p = omega (arith, roundings .2 group t p .power)
 
-each-quarter : (property : Quarter → Type 0) (values : List ℕ) (group : ℕ) (holidays : List ℕ) (d : Date) →
-    ((p : ℕ) → property (quarter group (dayOfYear d) p)) → Each property (dayQuarters values group holidays d)
+each-quarter : (property : Quarter → Type 0) (b : Basis) (d : Date) →
+    ((p : ℕ) → property (quarter (b .group) (dayOfYear d) p)) → Each property (dayQuarters b d)
 unfolding dayQuarters
-each-quarter property values group holidays d h =
-    each-position property (clock d) _ (each-map property (quarter group (dayOfYear d)) (dayValues values holidays d) h)
+each-quarter property b d h =
+    each-position property (clock d) _ (each-map property (quarter (b .group) (dayOfYear d)) (dayValues (b .values) (b .holidays) d) h)
 
-module _ (values : List ℕ) (group : ℕ) (holidays : List ℕ) (d : Date) where
-  pub day-rounded : 1 ≤ dayOfYear d → dayOfYear d ≤ 366 → Each Rounded (dayQuarters values group holidays d)
-  day-rounded h k = each-quarter Rounded values group holidays d (λ p. rounded group (dayOfYear d) p h k)
+module _ (b : Basis) (d : Date) where
+  pub day-rounded : 1 ≤ dayOfYear d → dayOfYear d ≤ 366 → Each Rounded (dayQuarters b d)
+  day-rounded h k = each-quarter Rounded b d (λ p. rounded (b .group) (dayOfYear d) p h k)
 
-  pub day-undynamised : Each Unrounded (dayQuarters values (suc group) holidays d)
-  day-undynamised = each-quarter Unrounded values (suc group) holidays d (undynamised group (dayOfYear d))
+pub day-undynamised : (values : List ℕ) (group : ℕ) (holidays : List ℕ) (d : Date) → Each Unrounded (dayQuarters (basis values (suc group) holidays) d)
+day-undynamised values group holidays d =
+    each-quarter Unrounded (basis values (suc group) holidays) d (undynamised group (dayOfYear d))

@@ -14,6 +14,15 @@ use Rattle.day_powers.specs.DayTable.{dayValues}
 abbrev pub quarter : ℕ → ℕ → ℕ → Quarter
 quarter group t p = record { value = p; exact = natAbs (X group t); power = Q p (F group t) }
 
+-- what a day's quarter hours are made from: a group's 864 values, its code and the list of holidays
+pub record Basis : Type 0 where
+  pub values : List ℕ
+  pub group : ℕ
+  pub holidays : List ℕ
+
+abbrev pub basis : List ℕ → ℕ → List ℕ → Basis
+basis values group holidays = record { values = values; group = group; holidays = holidays }
+
 -- "P and X are those of each quarter hour's own position and day, after the clock changes"
-unfoldable pub dayQuarters : List ℕ → ℕ → List ℕ → Date → List Quarter
-dayQuarters values group holidays d = positions (clock d) (map (quarter group (dayOfYear d)) (dayValues values holidays d))
+unfoldable pub dayQuarters : Basis → Date → List Quarter
+dayQuarters b d = positions (clock d) (map (quarter (b .group) (dayOfYear d)) (dayValues (b .values) (b .holidays) d))

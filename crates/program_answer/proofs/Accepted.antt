@@ -9,7 +9,8 @@ use Rattle.calendar_dates.specs.Dates.{dateOf}
 use Rattle.calendar_period.specs.declared.CalendarDay.{CalendarDay}
 use Rattle.calendar_period.specs.Inside.{calendarDay}
 use Rattle.file_group.specs.Group.{tableOf}
-use Rattle.call_request.specs.Request.{Request, daysIn, series, requestCheck}
+use Rattle.day_powers.specs.DayQuarters.{basis}
+use Rattle.call_request.specs.Request.{Request, daysIn, basisOf, series, requestCheck}
 use Rattle.call_request.proofs.Request.{sound, series-length}
 use Rattle.call_expand.specs.Expanding.{totals}
 use Rattle.text.specs.Inside.{Put}
@@ -23,13 +24,13 @@ use Rattle.program_answer.specs.Accepted.{rowsOf, acceptedLines, pageLen
 -- an accepted request, begun with carry 0
 module _ (q : Request) (passed : requestCheck q ≡ Pass) (none : q .carry ≡ 0) where
   sums : {before after : List ℕ} {r : Lines} →
-      Listed (tableOf (q .file) (q .group)) (q .group) (q .holidays) (q .yearly) (daysIn q) (dateOf (q .first)) before r after → r .totals ≡ totals q
+      Listed (basisOf q) (q .yearly) (daysIn q) (dateOf (q .first)) before r after → r .totals ≡ totals q
   unfolding series
   sums l = rw (series-length q, none) (l .totals)
 
   pub accepted : {values before middle after : List ℕ} {day : CalendarDay} {days s : ℕ} {r : Lines} → values ≡ tableOf (q .file) (q .group) →
       day ≡ calendarDay (dateOf (q .first)) → days ≡ daysIn q →
-      Listed values (q .group) (q .holidays) (q .yearly) days (day .date) before r middle →
+      Listed (basis values (q .group) (q .holidays)) (q .yearly) days (day .date) before r middle →
       Put (lastLine days (r .totals)) middle (r .at) s after → pageLength ≤ length before → Put (acceptedLines q) before 0 s after
   accepted {before = before} {middle} {r = r} v e f l last room =
       let lines = rw (v, e, f) at l in

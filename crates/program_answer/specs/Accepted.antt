@@ -2,15 +2,14 @@
 use mathlib.Core.List.{List, _++_}
 use Prim.Native.Nat.{ℕ}
 use Rattle.calendar_dates.specs.Dates.{dateOf}
-use Rattle.file_group.specs.Group.{tableOf}
-use Rattle.call_request.specs.Request.{Request, daysIn}
+use Rattle.call_request.specs.Request.{Request, daysIn, basisOf}
 use Rattle.call_expand.specs.Expanding.{totals}
 use Rattle.program_lines.specs.Lines.{Row, dayLines, lastLine}
 use Rattle.program_listing.specs.Listing.{rows}
 
 -- "Then it expands day by day": a request's rows; "from carry 0", which an input's request has
 abbrev pub rowsOf : Request → List Row
-rowsOf q = rows (tableOf (q .file) (q .group)) (q .group) (q .holidays) (q .yearly) (daysIn q) (dateOf (q .first)) (q .carry)
+rowsOf q = rows (basisOf q) (q .yearly) (daysIn q) (dateOf (q .first)) (q .carry)
 
 -- a line "for each day", then "the last line"
 abbrev pub acceptedLines : Request → List ℕ

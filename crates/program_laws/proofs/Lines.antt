@@ -11,10 +11,9 @@ use Rattle.refusal.specs.declared.Verdict.the-variants.{Pass, Refused}
 use Rattle.refusal.specs.Questions.{_then_}
 use Rattle.refusal.proofs.Questions.{ask-yes, then-pass}
 use Rattle.calendar_dates.specs.Dates.{dateOf}
-use Rattle.file_group.specs.Group.{tableOf}
 use Rattle.day_powers.specs.DayQuarters.{dayQuarters}
 use Rattle.series.specs.Series.{quartersOfDays}
-use Rattle.call_request.specs.Request.{Request, daysIn, series, requestCheck, outputQuestion}
+use Rattle.call_request.specs.Request.{Request, daysIn, basisOf, series, requestCheck, outputQuestion}
 use Rattle.call_request.proofs.Request.{series-length}
 use Rattle.call_expansion.specs.declared.Expansion.{Expansion}
 use Rattle.call_expansion.specs.declared.Expansion.the-variants.{Expanded}
@@ -42,14 +41,14 @@ module _ (q : Request) (output : List ℕ) where
 module _ (q : Request) where
   one-day : daysIn q ≡ 1 → rowsOf q ≡ rowOf (dateOf (q .first)) (totals q .count) (totals q .total) ∷ []
   unfolding rows series quartersOfDays
-  one-day one = rw (one, append-nil (dayQuarters (tableOf (q .file) (q .group)) (q .group) (q .holidays) (dateOf (q .first))))
+  one-day one = rw (one, append-nil (dayQuarters (basisOf q) (dateOf (q .first))))
 
   as-expanded : AsExpanded q
   unfolding RowsAddUp series
   as-expanded =
-      let (counts, energy) = rows-add-up (tableOf (q .file) (q .group)) (q .group) (q .holidays) (q .yearly) (daysIn q) (dateOf (q .first)) (q .carry) in
+      let (counts, energy) = rows-add-up (basisOf q) (q .yearly) (daysIn q) (dateOf (q .first)) (q .carry) in
       record {
-        days = length-rows (tableOf (q .file) (q .group)) (q .group) (q .holidays) (q .yearly) (daysIn q) (dateOf (q .first)) (q .carry);
+        days = length-rows (basisOf q) (q .yearly) (daysIn q) (dateOf (q .first)) (q .carry);
         counts = counts ∙ sym (series-length q);
         wattHours = energy;
         whole = answer q;

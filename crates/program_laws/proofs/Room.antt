@@ -14,7 +14,7 @@ use Rattle.calendar_dates.specs.Dates.{dateOf}
 use Rattle.file_layout.specs.Header.{layoutOf}
 use Rattle.file_group.specs.Group.{tableOf}
 use Rattle.file_group.proofs.Group.{table-length}
-use Rattle.call_request.specs.Request.{Request, daysIn, requestCheck}
+use Rattle.call_request.specs.Request.{Request, daysIn, basisOf, requestCheck}
 use Rattle.call_request.proofs.Request.{sound}
 use Rattle.call_expand.specs.Expanding.{totals}
 use Rattle.text.proofs.Text.{decimal-most}
@@ -37,7 +37,7 @@ lines-room : (q : Request) (v : Verdict) → (v ≡ Pass → requestCheck q ≡ 
 unfolding linesFor refusedLine
 lines-room q Pass h =
     let days = sound q (h refl) .period .short in
-    let lines = lines-short (tableOf (q .file) (q .group)) (q .group) (q .holidays) (q .yearly) (daysIn q) (dateOf (q .first)) (q .carry) (values-of-table q) in
+    let lines = lines-short (basisOf q) (q .yearly) (daysIn q) (dateOf (q .first)) (q .carry) (values-of-table q) in
     omega (arith, lines, days, last-line-short (daysIn q) (totals q), length-append (dayLines (q .holidays) (rowsOf q)) (lastLine (daysIn q) (totals q)))
 lines-room q (Refused r) h = simp length-append (omega (arith, decimal-most (number (Refused r)), decimal-most (place (Refused r))))
 

@@ -18,12 +18,12 @@ use Rattle.program_laws.specs.Rows.{RowsAddUp, RowsJoin}
 
 pub rows-add-up : RowsAddUp
 unfolding RowsAddUp rows quartersOfDays figures sum
-rows-add-up values group holidays yearly zero d carry = (refl, refl)
-rows-add-up values group holidays yearly (suc n) d carry =
-    let day = dayQuarters values group holidays d in
-    let later = quartersOfDays (dayQuarters values group holidays) n (nextDay d) in
+rows-add-up b yearly zero d carry = (refl, refl)
+rows-add-up b yearly (suc n) d carry =
+    let day = dayQuarters b d in
+    let later = quartersOfDays (dayQuarters b) n (nextDay d) in
     let next = lastCarry yearly (powers day) carry in
-    let (counts, energy) = rows-add-up values group holidays yearly n (nextDay d) next in
+    let (counts, energy) = rows-add-up b yearly n (nextDay d) next in
     let count : length (powers day) ≡ length day = length-map day _ in
     let split : powers (day ++ later) ≡ powers day ++ powers later = map-append _ day later in
     let joined : sum (figures yearly (powers (day ++ later)) carry) ≡ sum (figures yearly (powers day) carry ++ figures yearly (powers later) next) =
@@ -34,12 +34,12 @@ rows-add-up values group holidays yearly (suc n) d carry =
 
 pub rows-join : RowsJoin
 unfolding RowsJoin rows quartersOfDays daysLater lastCarry
-rows-join values group holidays yearly zero m d carry = rw zero-add
-rows-join values group holidays yearly (suc n) m d carry =
-    let day = dayQuarters values group holidays d in
-    let later = quartersOfDays (dayQuarters values group holidays) n (nextDay d) in
+rows-join b yearly zero m d carry = rw zero-add
+rows-join b yearly (suc n) m d carry =
+    let day = dayQuarters b d in
+    let later = quartersOfDays (dayQuarters b) n (nextDay d) in
     let next = lastCarry yearly (powers day) carry in
     let split : powers (day ++ later) ≡ powers day ++ powers later = map-append _ day later in
     let left : lastCarry yearly (powers (day ++ later)) carry ≡ lastCarry yearly (powers later) next =
     rw split (carry-append yearly (powers day) (powers later) carry) in
-    rw (suc-add, left, rows-join values group holidays yearly n m (nextDay d) next)
+    rw (suc-add, left, rows-join b yearly n m (nextDay d) next)

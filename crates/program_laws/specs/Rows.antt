@@ -1,6 +1,6 @@
 -- The rows of a period add up, and those of two periods join.
 use mathlib.Core.Path.{_≡_}
-use mathlib.Core.List.{List, _++_, map}
+use mathlib.Core.List.{_++_, map}
 use Prim.Native.Nat.{ℕ, _+_}
 use lib.ListN.{length}
 use Rattle.lists.specs.Lists.{sum}
@@ -8,7 +8,7 @@ use Rattle.calendar_dates.specs.declared.Date.{Date}
 use Rattle.calendar_dates.specs.Dates.{daysLater}
 use Rattle.carry.specs.Carry.{figures, lastCarry}
 use Rattle.carry.specs.Energy.{powers}
-use Rattle.day_powers.specs.DayQuarters.{dayQuarters}
+use Rattle.day_powers.specs.DayQuarters.{Basis, dayQuarters}
 use Rattle.series.specs.Series.{quartersOfDays}
 use Rattle.program_listing.specs.Listing.{rows}
 
@@ -17,14 +17,14 @@ use Rattle.program_listing.specs.Listing.{rows}
 -- the rows' counts and Wh add up to the period's
 unfoldable pub RowsAddUp : Type 0
 RowsAddUp =
-    (values : List ℕ) (group : ℕ) (holidays : List ℕ) (yearly n : ℕ) (d : Date) (carry : ℕ) →
-    (sum (map (λ row. row .count) (rows values group holidays yearly n d carry)) ≡ length (quartersOfDays (dayQuarters values group holidays) n d))
-    × (sum (map (λ row. row .wattHours) (rows values group holidays yearly n d carry)) ≡ sum (figures yearly (powers (quartersOfDays (dayQuarters values group holidays) n d)) carry))
+    (b : Basis) (yearly n : ℕ) (d : Date) (carry : ℕ) →
+    (sum (map (λ row. row .count) (rows b yearly n d carry)) ≡ length (quartersOfDays (dayQuarters b) n d))
+    × (sum (map (λ row. row .wattHours) (rows b yearly n d carry)) ≡ sum (figures yearly (powers (quartersOfDays (dayQuarters b) n d)) carry))
 
 -- the rows of n + m days are those of the first n, and those of the m after them, begun with the carry that the first n leave
 unfoldable pub RowsJoin : Type 0
 RowsJoin =
-    (values : List ℕ) (group : ℕ) (holidays : List ℕ) (yearly n m : ℕ) (d : Date) (carry : ℕ) →
-    rows values group holidays yearly (n + m) d carry
-    ≡ rows values group holidays yearly n d carry
-    ++ rows values group holidays yearly m (daysLater n d) (lastCarry yearly (powers (quartersOfDays (dayQuarters values group holidays) n d)) carry)
+    (b : Basis) (yearly n m : ℕ) (d : Date) (carry : ℕ) →
+    rows b yearly (n + m) d carry
+    ≡ rows b yearly n d carry
+    ++ rows b yearly m (daysLater n d) (lastCarry yearly (powers (quartersOfDays (dayQuarters b) n d)) carry)

@@ -15,7 +15,7 @@ use Rattle.carry.specs.declared.Totals.{Totals}
 use Rattle.carry.specs.Energy.{powers}
 use Rattle.carry.specs.Carry.{lastCarry}
 use Rattle.carry.proofs.Carry.{length-figures}
-use Rattle.day_powers.specs.DayQuarters.{dayQuarters}
+use Rattle.day_powers.specs.DayQuarters.{Basis, dayQuarters}
 use Rattle.series.specs.Series.{quartersOfDays}
 use Rattle.series.specs.Inside.{GroupValues, Filled}
 use Rattle.series.proofs.OneDay.{dayPowers}
@@ -37,46 +37,46 @@ only d h (suc k) l = absurd (omega arith)
 pub one-day : {day : CalendarDay} → RealDay day → RealDays day 1
 one-day {day} real = record { known = real .known; few = omega arith; all = only (day .date) (real .real) }
 
-powers-one : (values : List ℕ) (group : ℕ) (holidays : List ℕ) (d : Date) → powersFrom values group holidays 1 d ≡ dayPowers values group holidays d
+powers-one : (b : Basis) (d : Date) → powersFrom b 1 d ≡ dayPowers b d
 unfolding quartersOfDays
-powers-one values group holidays d = ap powers (append-nil (dayQuarters values group holidays d))
+powers-one b d = ap powers (append-nil (dayQuarters b d))
 
-module _ {values : List ℕ} (sound : GroupValues values) (group : ℕ) (holidays : List ℕ) (d : Date) where
-  pub one-room : length (quartersOfDays (dayQuarters values group holidays) 1 d) ≤ 100
-  one-room = omega (arith, length-quarters values group holidays 1 d (sound .whole), values-small 1 d)
+module _ (b : Basis) (sound : GroupValues (b .values)) (d : Date) where
+  pub one-room : length (quartersOfDays (dayQuarters b) 1 d) ≤ 100
+  one-room = omega (arith, length-quarters b 1 d (sound .whole), values-small 1 d)
 
-  module _ {yearly carry : ℕ} {out after : List ℕ} {t : Totals} (did : Filled yearly (powersFrom values group holidays 1 d) carry out t after) where
+  module _ {yearly carry : ℕ} {out after : List ℕ} {t : Totals} (did : Filled yearly (powersFrom b 1 d) carry out t after) where
     own-totals : t ≡ record {
-      count = length (dayPowers values group holidays d);
-      total = sum (dayFigures values group holidays yearly d carry);
-      carry = lastCarry yearly (dayPowers values group holidays d) carry;
+      count = length (dayPowers b d);
+      total = sum (dayFigures b yearly d carry);
+      carry = lastCarry yearly (dayPowers b d) carry;
     }
-    own-totals = rw (powers-one values group holidays d) at (did .totals)
+    own-totals = rw (powers-one b d) at (did .totals)
 
-    own-count : t .count ≡ length (dayPowers values group holidays d)
+    own-count : t .count ≡ length (dayPowers b d)
     own-count = ap (λ (x : Totals). x .count) own-totals
 
-    pub own-total : t .total ≡ sum (dayFigures values group holidays yearly d carry)
+    pub own-total : t .total ≡ sum (dayFigures b yearly d carry)
     own-total = ap (λ (x : Totals). x .total) own-totals
 
-    own-carry : t .carry ≡ lastCarry yearly (dayPowers values group holidays d) carry
+    own-carry : t .carry ≡ lastCarry yearly (dayPowers b d) carry
     own-carry = ap (λ (x : Totals). x .carry) own-totals
 
     pub few : t .count ≤ 100
-    few = omega (arith, ap (λ (x : Totals). x .count) (did .totals), length-powers values group holidays 1 d, one-room)
+    few = omega (arith, ap (λ (x : Totals). x .count) (did .totals), length-powers b 1 d, one-room)
 
   pub day-listed : {yearly : ℕ} {before : Lines} {out filled page after : List ℕ} {t : Totals} {r : ℕ} →
-      Filled yearly (powersFrom values group holidays 1 d) (before .totals .carry) out t filled →
-      Put (dayLine holidays (rowOf d (t .count) (t .total))) page (before .at) r after →
-      DayListed values group holidays yearly d before page
+      Filled yearly (powersFrom b 1 d) (before .totals .carry) out t filled →
+      Put (dayLine (b .holidays) (rowOf d (t .count) (t .total))) page (before .at) r after →
+      DayListed b yearly d before page
       (record { at = r; totals = record { count = before .totals .count + t .count; total = before .totals .total + t .total; carry = t .carry } }) after
   day-listed {yearly} {before} {t = t} did put =
       let count = own-count did in
       let total = own-total did in
       let small = few did in
-      let short = day-line-short holidays d (t .count) (t .total) (omega arith) in
+      let short = day-line-short (b .holidays) d (t .count) (t .total) (omega arith) in
       record {
-        line = rw (length-figures yearly (dayPowers values group holidays d) (before .totals .carry), ← count, ← total) put;
+        line = rw (length-figures yearly (dayPowers b d) (before .totals .carry), ← count, ← total) put;
         short = omega (arith, put .behind);
         count = omega arith;
         total = omega arith;

@@ -13,6 +13,7 @@ use Rattle.calendar_period.specs.declared.CalendarDay.{CalendarDay}
 use Rattle.calendar_period.specs.Inside.{calendarDay, RealDays}
 use Rattle.calendar_period.proofs.Period.{values-small}
 use Rattle.carry.specs.Carry.{lastCarry}
+use Rattle.day_powers.specs.DayQuarters.{Basis}
 use Rattle.series.specs.Inside.{GroupValues, InRange}
 use Rattle.series.proofs.OneDay.{dayPowers}
 use Rattle.series.proofs.DayByDay.{start, powersFrom, length-powers, whole-fits, DaysLeft, all-done, day-room, day-turn}
@@ -25,71 +26,71 @@ use Rattle.program_listing.specs.Listing.{dayFigures, rows}
 use Rattle.program_listing.specs.Inside.{DayRoom, DayListed, Listed}
 
 -- the lines of some days, begun with a carry
-abbrev pub linesFrom : List ℕ → ℕ → List ℕ → ℕ → ℕ → Date → ℕ → List ℕ
-linesFrom values group holidays yearly n d carry = dayLines holidays (rows values group holidays yearly n d carry)
+abbrev pub linesFrom : Basis → ℕ → ℕ → Date → ℕ → List ℕ
+linesFrom b yearly n d carry = dayLines (b .holidays) (rows b yearly n d carry)
 
-module _ (values : List ℕ) (group : ℕ) (holidays : List ℕ) (yearly : ℕ) where
-  lines-none : (n : ℕ) (d : Date) (carry : ℕ) → n ≤ 0 → linesFrom values group holidays yearly n d carry ≡ []
+module _ (b : Basis) (yearly : ℕ) where
+  lines-none : (n : ℕ) (d : Date) (carry : ℕ) → n ≤ 0 → linesFrom b yearly n d carry ≡ []
   unfolding rows dayLines
   lines-none zero d carry h = refl
   lines-none (suc n) d carry h = absurd (omega arith)
 
   lines-next : (n : ℕ) (d : Date) (carry : ℕ) → 0 < n →
-      linesFrom values group holidays yearly n d carry
-      ≡ dayLine holidays (rowOf d (length (dayFigures values group holidays yearly d carry)) (sum (dayFigures values group holidays yearly d carry)))
-      ++ linesFrom values group holidays yearly (n - 1) (nextDay d) (lastCarry yearly (dayPowers values group holidays d) carry)
+      linesFrom b yearly n d carry
+      ≡ dayLine (b .holidays) (rowOf d (length (dayFigures b yearly d carry)) (sum (dayFigures b yearly d carry)))
+      ++ linesFrom b yearly (n - 1) (nextDay d) (lastCarry yearly (dayPowers b d) carry)
   unfolding rows dayLines
   lines-next zero d carry h = absurd (omega arith)
   lines-next (suc n) d carry h =
       let one : suc n - 1 ≡ n = omega arith in rw one
 
 -- the lines of the days left are still to come
-pub record LinesLeft (values : List ℕ) (group : ℕ) (holidays : List ℕ) (yearly days : ℕ) (first : Date) (entry : List ℕ) (day : CalendarDay) (left : ℕ) (soFar : Lines) (page : List ℕ) : Type 0 where
+pub record LinesLeft (b : Basis) (yearly days : ℕ) (first : Date) (entry : List ℕ) (day : CalendarDay) (left : ℕ) (soFar : Lines) (page : List ℕ) : Type 0 where
   -- the figures as series' law has them stored; no page holds them
   pub out : List ℕ
-  pub totals : DaysLeft values group holidays yearly (powersFrom values group holidays days first) 0 (powersFrom values group holidays days first) day left (soFar .totals) out
+  pub totals : DaysLeft b yearly (powersFrom b days first) 0 (powersFrom b days first) day left (soFar .totals) out
   pub text : List ℕ
   pub put : Put text entry 0 (soFar .at) page
-  pub linesLeft : text ++ linesFrom values group holidays yearly left (day .date) (soFar .totals .carry) ≡ linesFrom values group holidays yearly days first 0
+  pub linesLeft : text ++ linesFrom b yearly left (day .date) (soFar .totals .carry) ≡ linesFrom b yearly days first 0
   pub short : soFar .at + 39 * left ≤ 39 * days
   pub room : 39 * days ≤ length entry
-  pub few : length (powersFrom values group holidays days first) ≤ 146_100
+  pub few : length (powersFrom b days first) ≤ 146_100
 
-pub begin : {values : List ℕ} (sound : GroupValues values) (group : ℕ) (holidays : List ℕ) {yearly days : ℕ} {day : CalendarDay} {entry : List ℕ} →
+pub begin : (b : Basis) (sound : GroupValues (b .values)) {yearly days : ℕ} {day : CalendarDay} {entry : List ℕ} →
     RealDays day days → InRange yearly 0 → 57_000 ≤ length entry →
-    LinesLeft values group holidays yearly days (day .date) entry day days (record { at = 0; totals = record { count = 0; total = 0; carry = 0 } }) entry
-begin {values} sound group holidays {yearly} {days} {day} real range room =
+    LinesLeft b yearly days (day .date) entry day days (record { at = 0; totals = record { count = 0; total = 0; carry = 0 } }) entry
+begin b sound {yearly} {days} {day} real range room =
     let few = real .few in
     record {
-      out = powersFrom values group holidays days (day .date);
-      totals = record { real = real; todo = start (range .carrySmall) (omega arith) (whole-fits sound group holidays range real) };
+      out = powersFrom b days (day .date);
+      totals = record { real = real; todo = start (range .carrySmall) (omega arith) (whole-fits b sound range real) };
       text = [];
       put = record { page = refl; behind = refl };
       linesLeft = refl;
       short = omega arith;
       room = omega arith;
-      few = omega (arith, length-powers values group holidays days (day .date), length-quarters values group holidays days (day .date) (sound .whole), values-small days (day .date));
+      few = omega (arith, length-powers b days (day .date), length-quarters b days (day .date) (sound .whole), values-small days (day .date));
     }
 
-module _ {values : List ℕ} {group : ℕ} {holidays : List ℕ} {yearly days : ℕ} {first : Date} {entry : List ℕ} {day : CalendarDay} {left : ℕ} {soFar : Lines} {page : List ℕ}
-    (l : LinesLeft values group holidays yearly days first entry day left soFar page) where
+module _ {b : Basis} {yearly days : ℕ} {first : Date} {entry : List ℕ} {day : CalendarDay} {left : ℕ} {soFar : Lines} {page : List ℕ}
+    (l : LinesLeft b yearly days first entry day left soFar page) where
   pub page-length : length page ≡ length entry
   page-length =
       let at = l .put .behind in
       put-length (l .put) (omega arith)
 
-  pub end : left ≤ 0 → Listed values group holidays yearly days first entry soFar page
+  pub end : left ≤ 0 → Listed b yearly days first entry soFar page
   end none =
-      let all : l .text ≡ linesFrom values group holidays yearly days first 0 =
-      sym (append-nil (l .text)) ∙ (rw (lines-none values group holidays yearly left (day .date) (soFar .totals .carry) none) at (l .linesLeft)) in
+      let all : l .text ≡ linesFrom b yearly days first 0 =
+      sym (append-nil (l .text)) ∙ (rw (lines-none b yearly left (day .date) (soFar .totals .carry) none) at (l .linesLeft)) in
       record {
         lines = rw all at (l .put);
-        totals = rw (length-powers values group holidays days first) at (all-done (l .totals) none .totals);
+        totals = rw (length-powers b days first) at (all-done (l .totals) none .totals);
         short = omega (arith, l .short);
       }
 
   module _ (some : 0 < left) where
-    pub line-room : DayRoom values group holidays yearly (day .date) soFar page
+    pub line-room : DayRoom b yearly (day .date) soFar page
     line-room =
         let kept = page-length in
         record {
@@ -98,8 +99,8 @@ module _ {values : List ℕ} {group : ℕ} {holidays : List ℕ} {yearly days : 
           total = day-room (l .totals) some .total;
         }
 
-    pub turn : {r : Lines} {after : List ℕ} {next : CalendarDay} → DayListed values group holidays yearly (day .date) soFar page r after →
-        next ≡ calendarDay (nextDay (day .date)) → LinesLeft values group holidays yearly days first entry next (left - 1) r after
+    pub turn : {r : Lines} {after : List ℕ} {next : CalendarDay} → DayListed b yearly (day .date) soFar page r after →
+        next ≡ calendarDay (nextDay (day .date)) → LinesLeft b yearly days first entry next (left - 1) r after
     turn {r} did e =
         let at = l .put .behind in
         let room = l .room in
@@ -111,7 +112,7 @@ module _ {values : List ℕ} {group : ℕ} {holidays : List ℕ} {yearly days : 
           totals = day-turn (l .totals) some (record { stored = refl; count = did .count; total = did .total; carry = did .carry }) e;
           text = _;
           put = put-put (l .put) (did .line) (omega arith);
-          linesLeft = rw (e, did .carry) (append-assoc (l .text) _ _ ∙ (rw (lines-next values group holidays yearly left (day .date) (soFar .totals .carry) some) at (l .linesLeft)));
+          linesLeft = rw (e, did .carry) (append-assoc (l .text) _ _ ∙ (rw (lines-next b yearly left (day .date) (soFar .totals .carry) some) at (l .linesLeft)));
           short = omega arith;
           room = room;
           few = l .few;

@@ -14,7 +14,7 @@ use Rattle.carry.specs.declared.Totals.{Totals}
 use Rattle.carry.specs.Carry.{lastCarry}
 use Rattle.carry.specs.Energy.{powers}
 use Rattle.carry.proofs.Carry.{length-figures}
-use Rattle.day_powers.specs.DayQuarters.{dayQuarters}
+use Rattle.day_powers.specs.DayQuarters.{Basis, dayQuarters}
 use Rattle.day_powers.proofs.DayQuarters.{length-day-quarters}
 use Rattle.text.proofs.Text.{decimal-short, decimal-most}
 use Rattle.program_lines.specs.Lines.{rowOf, dayLine, dayLines, lastLine}
@@ -32,36 +32,36 @@ unfolding lastLine
 last-line-short days t =
     simp length-append (omega (arith, decimal-most days, decimal-most (t .count), decimal-most (t .total), decimal-most (t .carry)))
 
-pub length-rows : (values : List ℕ) (group : ℕ) (holidays : List ℕ) (yearly n : ℕ) (d : Date) (carry : ℕ) → length (rows values group holidays yearly n d carry) ≡ n
+pub length-rows : (b : Basis) (yearly n : ℕ) (d : Date) (carry : ℕ) → length (rows b yearly n d carry) ≡ n
 unfolding rows
-length-rows values group holidays yearly zero d carry = refl
-length-rows values group holidays yearly (suc n) d carry =
-    ap suc (length-rows values group holidays yearly n (nextDay d) (lastCarry yearly (powers (dayQuarters values group holidays d)) carry))
+length-rows b yearly zero d carry = refl
+length-rows b yearly (suc n) d carry =
+    ap suc (length-rows b yearly n (nextDay d) (lastCarry yearly (powers (dayQuarters b d)) carry))
 
 -- the figures of one day are at most 100
-few : (values : List ℕ) (group : ℕ) (holidays : List ℕ) (yearly : ℕ) (d : Date) (carry : ℕ) → length values ≡ 864 →
-    length (dayFigures values group holidays yearly d carry) ≤ 100
-few values group holidays yearly d carry h =
-    let day = dayQuarters values group holidays d in
+few : (b : Basis) (yearly : ℕ) (d : Date) (carry : ℕ) → length (b .values) ≡ 864 →
+    length (dayFigures b yearly d carry) ≤ 100
+few b yearly d carry h =
+    let day = dayQuarters b d in
     let limit = values-under-small (clock d) in
-    omega (arith, length-figures yearly (powers day) carry, length-map day (λ q. q .power), length-day-quarters values group holidays d h)
+    omega (arith, length-figures yearly (powers day) carry, length-map day (λ q. q .power), length-day-quarters b d h)
   where
     values-under-small : (c : Clock) → valuesUnder c ≤ 100
     values-under-small Unchanged = omega arith
     values-under-small Forward = omega arith
     values-under-small Back = omega arith
 
-pub lines-short : (values : List ℕ) (group : ℕ) (holidays : List ℕ) (yearly n : ℕ) (d : Date) (carry : ℕ) → length values ≡ 864 →
-    length (dayLines holidays (rows values group holidays yearly n d carry)) ≤ 39 * n
+pub lines-short : (b : Basis) (yearly n : ℕ) (d : Date) (carry : ℕ) → length (b .values) ≡ 864 →
+    length (dayLines (b .holidays) (rows b yearly n d carry)) ≤ 39 * n
 unfolding rows dayLines
-lines-short values group holidays yearly zero d carry h = omega arith
-lines-short values group holidays yearly (suc n) d carry h =
-    let figs = dayFigures values group holidays yearly d carry in
-    let next = lastCarry yearly (powers (dayQuarters values group holidays d)) carry in
-    let line = day-line-short holidays d (length figs) (sum figs) (omega (arith, few values group holidays yearly d carry h)) in
+lines-short b yearly zero d carry h = omega arith
+lines-short b yearly (suc n) d carry h =
+    let figs = dayFigures b yearly d carry in
+    let next = lastCarry yearly (powers (dayQuarters b d)) carry in
+    let line = day-line-short (b .holidays) d (length figs) (sum figs) (omega (arith, few b yearly d carry h)) in
     omega (
       arith,
       line,
-      lines-short values group holidays yearly n (nextDay d) next h,
-      length-append (dayLine holidays (rowOf d (length figs) (sum figs))) (dayLines holidays (rows values group holidays yearly n (nextDay d) next)),
+      lines-short b yearly n (nextDay d) next h,
+      length-append (dayLine (b .holidays) (rowOf d (length figs) (sum figs))) (dayLines (b .holidays) (rows b yearly n (nextDay d) next)),
     )

@@ -8,7 +8,7 @@ use Rattle.lists.specs.Lists.{sum}
 use Rattle.calendar_dates.specs.declared.Date.{Date}
 use Rattle.carry.specs.Carry.{figures, lastCarry}
 use Rattle.carry.specs.Energy.{powers}
-use Rattle.day_powers.specs.DayQuarters.{dayQuarters}
+use Rattle.day_powers.specs.DayQuarters.{Basis, dayQuarters}
 use Rattle.series.specs.Series.{quartersOfDays}
 use Rattle.text.specs.Inside.{Put}
 use Rattle.program_lines.specs.Lines.{rowOf, dayLine, dayLines}
@@ -16,27 +16,27 @@ use Rattle.program_listing.specs.declared.Lines.{Lines}
 use Rattle.program_listing.specs.Listing.{dayFigures, rows}
 
 -- one day's line has room on a page, and its figures have room in the totals
-pub record DayRoom (values : List ℕ) (group : ℕ) (holidays : List ℕ) (yearly : ℕ) (d : Date) (before : Lines) (page : List ℕ) : Type 0 where
+pub record DayRoom (b : Basis) (yearly : ℕ) (d : Date) (before : Lines) (page : List ℕ) : Type 0 where
   pub line : before .at + 39 ≤ length page
   pub count : before .totals .count ≤ 146_100
-  pub total : before .totals .total + sum (dayFigures values group holidays yearly d (before .totals .carry)) < 2 ^ 64
+  pub total : before .totals .total + sum (dayFigures b yearly d (before .totals .carry)) < 2 ^ 64
 
 -- one day's line was put behind those before, and its figures were added to their totals
-pub record DayListed (values : List ℕ) (group : ℕ) (holidays : List ℕ) (yearly : ℕ) (d : Date) (before : Lines) (page : List ℕ) (r : Lines) (after : List ℕ) : Type 0 where
+pub record DayListed (b : Basis) (yearly : ℕ) (d : Date) (before : Lines) (page : List ℕ) (r : Lines) (after : List ℕ) : Type 0 where
   pub line : Put
-      (dayLine holidays (rowOf d (length (dayFigures values group holidays yearly d (before .totals .carry))) (sum (dayFigures values group holidays yearly d (before .totals .carry)))))
+      (dayLine (b .holidays) (rowOf d (length (dayFigures b yearly d (before .totals .carry))) (sum (dayFigures b yearly d (before .totals .carry)))))
       page (before .at) (r .at) after
   pub short : r .at ≤ before .at + 39
-  pub count : r .totals .count ≡ before .totals .count + length (powers (dayQuarters values group holidays d))
-  pub total : r .totals .total ≡ before .totals .total + sum (dayFigures values group holidays yearly d (before .totals .carry))
-  pub carry : r .totals .carry ≡ lastCarry yearly (powers (dayQuarters values group holidays d)) (before .totals .carry)
+  pub count : r .totals .count ≡ before .totals .count + length (powers (dayQuarters b d))
+  pub total : r .totals .total ≡ before .totals .total + sum (dayFigures b yearly d (before .totals .carry))
+  pub carry : r .totals .carry ≡ lastCarry yearly (powers (dayQuarters b d)) (before .totals .carry)
 
 -- the lines of some days were put on a page, and these are the days' totals
-pub record Listed (values : List ℕ) (group : ℕ) (holidays : List ℕ) (yearly : ℕ) (days : ℕ) (d : Date) (before : List ℕ) (r : Lines) (after : List ℕ) : Type 0 where
-  pub lines : Put (dayLines holidays (rows values group holidays yearly days d 0)) before 0 (r .at) after
+pub record Listed (b : Basis) (yearly : ℕ) (days : ℕ) (d : Date) (before : List ℕ) (r : Lines) (after : List ℕ) : Type 0 where
+  pub lines : Put (dayLines (b .holidays) (rows b yearly days d 0)) before 0 (r .at) after
   pub totals : r .totals ≡ record {
-    count = length (quartersOfDays (dayQuarters values group holidays) days d);
-    total = sum (figures yearly (powers (quartersOfDays (dayQuarters values group holidays) days d)) 0);
-    carry = lastCarry yearly (powers (quartersOfDays (dayQuarters values group holidays) days d)) 0;
+    count = length (quartersOfDays (dayQuarters b) days d);
+    total = sum (figures yearly (powers (quartersOfDays (dayQuarters b) days d)) 0);
+    carry = lastCarry yearly (powers (quartersOfDays (dayQuarters b) days d)) 0;
   }
   pub short : r .at ≤ 39 * days

@@ -7,16 +7,16 @@ use Rattle.calendar_dates.specs.declared.Date.{Date}
 use Rattle.calendar_dates.specs.Dates.{nextDay}
 use Rattle.carry.specs.Carry.{figures, lastCarry}
 use Rattle.carry.specs.Energy.{powers}
-use Rattle.day_powers.specs.DayQuarters.{dayQuarters}
+use Rattle.day_powers.specs.DayQuarters.{Basis, dayQuarters}
 use Rattle.program_lines.specs.Lines.{Row, rowOf}
 
 -- the figures of one day, begun with a carry
-abbrev pub dayFigures : List ℕ → ℕ → List ℕ → ℕ → Date → ℕ → List ℕ
-dayFigures values group holidays yearly d carry = figures yearly (powers (dayQuarters values group holidays d)) carry
+abbrev pub dayFigures : Basis → ℕ → Date → ℕ → List ℕ
+dayFigures b yearly d carry = figures yearly (powers (dayQuarters b d)) carry
 
 -- "Then it expands day by day": the rows of n days from a date on, begun with a carry, of a group's values
-unfoldable pub rows : List ℕ → ℕ → List ℕ → ℕ → ℕ → Date → ℕ → List Row
-rows values group holidays yearly zero d carry = []
-rows values group holidays yearly (suc n) d carry =
-    rowOf d (length (dayFigures values group holidays yearly d carry)) (sum (dayFigures values group holidays yearly d carry))
-    ∷ rows values group holidays yearly n (nextDay d) (lastCarry yearly (powers (dayQuarters values group holidays d)) carry)
+unfoldable pub rows : Basis → ℕ → ℕ → Date → ℕ → List Row
+rows b yearly zero d carry = []
+rows b yearly (suc n) d carry =
+    rowOf d (length (dayFigures b yearly d carry)) (sum (dayFigures b yearly d carry))
+    ∷ rows b yearly n (nextDay d) (lastCarry yearly (powers (dayQuarters b d)) carry)

@@ -7,6 +7,7 @@ ghost use lib.ListN.{length};
 ghost use Rattle.refusal.specs.declared.Verdict.the-variants.{Pass};
 ghost use Rattle.calendar_holidays.specs.Holidays.{holidaysQuestion};
 ghost use Rattle.calendar_period.specs.Inside.{RealDay, RealDays};
+ghost use Rattle.day_powers.specs.DayQuarters.{basis};
 ghost use Rattle.series.specs.Inside.{GroupValues, InRange};
 ghost use Rattle.program_listing.specs.Inside.{DayRoom, DayListed, Listed};
 
@@ -30,8 +31,10 @@ fn list_day(
     requires { ⌜ RealDay day ⌝ }
     requires { ⌜ holidaysQuestion (now holidays) ≡ Pass ⌝ }
     requires { ⌜ InRange yearly (before .totals .carry) ⌝ }
-    requires { ⌜ DayRoom (now values) group (now holidays) yearly (day .date) before (now page) ⌝ }
-    ensures { λ r. ⌜ DayListed (now (values .entry)) group (now (holidays .entry)) yearly (day .date) before (now (page .entry)) r (now (page .exit)) ⌝ }
+    requires { ⌜ DayRoom (basis (now values) group (now holidays)) yearly (day .date) before (now page) ⌝ }
+    ensures { λ r. ⌜
+        DayListed (basis (now (values .entry)) group (now (holidays .entry))) yearly (day .date)
+        before (now (page .entry)) r (now (page .exit)) ⌝ }
 {
     let mut figures = [0u32; 100];
     let t = series::expand_days(
@@ -72,7 +75,7 @@ pub fn list_days(
     requires { ⌜ holidaysQuestion (now holidays) ≡ Pass ⌝ }
     requires { ⌜ InRange yearly 0 ⌝ }
     requires { ⌜ 57_000 ≤ length (now page) ⌝ }
-    ensures { λ r. ⌜ Listed (now (values .entry)) group (now (holidays .entry)) yearly days (first .date) (now (page .entry)) r (now (page .exit)) ⌝ }
+    ensures { λ r. ⌜ Listed (basis (now (values .entry)) group (now (holidays .entry))) yearly days (first .date) (now (page .entry)) r (now (page .exit)) ⌝ }
 {
     let mut day = first;
     let mut left = days;

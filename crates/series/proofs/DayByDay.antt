@@ -21,10 +21,10 @@ use Rattle.calendar_period.specs.declared.CalendarDay.{CalendarDay}
 use Rattle.calendar_period.specs.Inside.{calendarDay, RealDay, RealDays}
 use Rattle.calendar_period.proofs.Period.{values-small}
 use Rattle.carry.specs.declared.Totals.{Totals}
-use Rattle.carry.specs.Carry.{figures, lastCarry}
+use Rattle.carry.specs.Carry.{largestCarry, figures, lastCarry}
 use Rattle.carry.specs.Energy.{powers}
 use Rattle.carry.proofs.Carry.{figures-append, carry-append, length-figures, carry-small, telescope}
-use Rattle.day_powers.specs.DayQuarters.{dayQuarters}
+use Rattle.day_powers.specs.DayQuarters.{Basis, dayQuarters}
 use Rattle.day_powers.proofs.DayQuarters.{each-position, day-powers-positions}
 use Rattle.series.specs.Inside.{GroupValues, InRange, Room, Added, Filled}
 use Rattle.series.specs.Series.{quartersOfDays}
@@ -37,7 +37,7 @@ pub record Left (yearly : ℕ) (whole : List ℕ) (carry : ℕ) (entry : List �
   pub countLeft : soFar .count + length left ≡ length whole
   pub totalLeft : soFar .total + sum (figures yearly left (soFar .carry)) ≡ sum (figures yearly whole carry)
   pub carryLeft : lastCarry yearly left (soFar .carry) ≡ lastCarry yearly whole carry
-  pub carrySmall : soFar .carry < 40_000
+  pub carrySmall : soFar .carry ≤ largestCarry
   pub room : length whole ≤ length entry
   pub fits : sum (figures yearly whole carry) < 2 ^ 64
 
@@ -49,7 +49,7 @@ same-totals : {n t k n′ t′ k′ : ℕ} → n ≡ n′ → t ≡ t′ → k �
 same-totals n t k = rw (n, t, k)
 
 module _ {yearly : ℕ} {whole : List ℕ} {carry : ℕ} {entry : List ℕ} where
-  pub start : carry < 40_000 → length whole ≤ length entry → sum (figures yearly whole carry) < 2 ^ 64 →
+  pub start : carry ≤ largestCarry → length whole ≤ length entry → sum (figures yearly whole carry) < 2 ^ 64 →
       Left yearly whole carry entry whole (record { count = 0; total = 0; carry = carry }) entry
   start h k f = record { figuresLeft = refl; countLeft = omega arith; totalLeft = omega arith; carryLeft = refl; carrySmall = h; room = k; fits = f }
 
@@ -109,78 +109,78 @@ sum-small [] h = omega arith
 sum-small (x ∷ xs) h = omega (arith, h .0, sum-small xs (h .1))
 
 -- the powers of some days of a group
-abbrev pub powersFrom : List ℕ → ℕ → List ℕ → ℕ → Date → List ℕ
-powersFrom values group holidays n d = powers (quartersOfDays (dayQuarters values group holidays) n d)
+abbrev pub powersFrom : Basis → ℕ → Date → List ℕ
+powersFrom b n d = powers (quartersOfDays (dayQuarters b) n d)
 
-module _ (values : List ℕ) (group : ℕ) (holidays : List ℕ) where
-  pub length-powers : (n : ℕ) (d : Date) → length (powersFrom values group holidays n d) ≡ length (quartersOfDays (dayQuarters values group holidays) n d)
-  length-powers n d = length-map (quartersOfDays (dayQuarters values group holidays) n d) _
+module _ (b : Basis) where
+  pub length-powers : (n : ℕ) (d : Date) → length (powersFrom b n d) ≡ length (quartersOfDays (dayQuarters b) n d)
+  length-powers n d = length-map (quartersOfDays (dayQuarters b) n d) _
 
-  powers-none : (n : ℕ) (d : Date) → n ≤ 0 → powersFrom values group holidays n d ≡ []
-  powers-none n d h = ap powers (quarters-none (dayQuarters values group holidays) n d h)
+  powers-none : (n : ℕ) (d : Date) → n ≤ 0 → powersFrom b n d ≡ []
+  powers-none n d h = ap powers (quarters-none (dayQuarters b) n d h)
 
   powers-next : (n : ℕ) (d : Date) → 0 < n →
-      powersFrom values group holidays n d ≡ dayPowers values group holidays d ++ powersFrom values group holidays (n - 1) (nextDay d)
+      powersFrom b n d ≡ dayPowers b d ++ powersFrom b (n - 1) (nextDay d)
   powers-next n d h =
-      ap powers (quarters-next (dayQuarters values group holidays) n d h)
-      ∙ map-append _ (dayQuarters values group holidays d) (quartersOfDays (dayQuarters values group holidays) (n - 1) (nextDay d))
+      ap powers (quarters-next (dayQuarters b) n d h)
+      ∙ map-append _ (dayQuarters b d) (quartersOfDays (dayQuarters b) (n - 1) (nextDay d))
 
-module _ {values : List ℕ} (sound : GroupValues values) (group : ℕ) (holidays : List ℕ) where
-  day-small : (d : Date) → isDate d ≡ true → Small (dayPowers values group holidays d)
+module _ (b : Basis) (sound : GroupValues (b .values)) where
+  day-small : (d : Date) → isDate d ≡ true → Small (dayPowers b d)
   day-small d h =
-      rw (day-powers-positions values group holidays d)
-      (each-position _ (clock d) _ (small-each (powersBefore values group holidays d) (day-powers-small sound group holidays d h)))
+      rw (day-powers-positions b d)
+      (each-position _ (clock d) _ (small-each (powersBefore b d) (day-powers-small b sound d h)))
 
-  pub all-small : (n : ℕ) (d : Date) → AllDates n d → Small (powersFrom values group holidays n d)
-  all-small zero d h = rw (powers-none values group holidays 0 d (omega arith)) tt
+  pub all-small : (n : ℕ) (d : Date) → AllDates n d → Small (powersFrom b n d)
+  all-small zero d h = rw (powers-none b 0 d (omega arith)) tt
   all-small (suc n) d h =
       let one : suc n - 1 ≡ n = omega arith in
-      rw (powers-next values group holidays (suc n) d (omega arith), one)
-      (each-append _ (dayPowers values group holidays d) (powersFrom values group holidays n (nextDay d))
+      rw (powers-next b (suc n) d (omega arith), one)
+      (each-append _ (dayPowers b d) (powersFrom b n (nextDay d))
       (day-small d (all-first (suc n) d h (omega arith))) (all-small n (nextDay d) (rw one at (all-next (suc n) d h))))
 
   pub whole-fits : {yearly carry : ℕ} {first : CalendarDay} {days : ℕ} → InRange yearly carry → RealDays first days →
-      sum (figures yearly (powersFrom values group holidays days (first .date)) carry) < 2 ^ 64
+      sum (figures yearly (powersFrom b days (first .date)) carry) < 2 ^ 64
   whole-fits {yearly} {carry} {first} {days} range real =
-      let all = powersFrom values group holidays days (first .date) in
+      let all = powersFrom b days (first .date) in
       let few = real .few in
-      let many = length-quarters values group holidays days (first .date) (sound .whole) in
-      let count : length all ≤ 146_100 = omega (arith, length-powers values group holidays days (first .date), values-small days (first .date)) in
+      let many = length-quarters b days (first .date) (sound .whole) in
+      let count : length all ≤ 146_100 = omega (arith, length-powers b days (first .date), values-small days (first .date)) in
       let limit : sum all ≤ 40_000 * 146_100 = omega (arith, sum-small all (all-small days (first .date) (real .all))) in
       omega (arith, telescope yearly carry all, mul-le-mul (range .yearlySmall) limit, range .carrySmall)
 
 -- the loop over the days: those left, from `day` on, are real, and their powers are still to come
-pub record DaysLeft (values : List ℕ) (group : ℕ) (holidays : List ℕ) (yearly : ℕ) (whole : List ℕ) (carry : ℕ) (entry : List ℕ) (day : CalendarDay) (left : ℕ) (soFar : Totals) (out : List ℕ) : Type 0 where
+pub record DaysLeft (b : Basis) (yearly : ℕ) (whole : List ℕ) (carry : ℕ) (entry : List ℕ) (day : CalendarDay) (left : ℕ) (soFar : Totals) (out : List ℕ) : Type 0 where
   pub real : RealDays day left
-  pub todo : Left yearly whole carry entry (powersFrom values group holidays left (day .date)) soFar out
+  pub todo : Left yearly whole carry entry (powersFrom b left (day .date)) soFar out
 
-module _ {values : List ℕ} {group : ℕ} {holidays : List ℕ} {yearly : ℕ} {whole : List ℕ} {carry : ℕ} {entry : List ℕ} {day : CalendarDay} {left : ℕ} {soFar : Totals} {out : List ℕ}
-    (l : DaysLeft values group holidays yearly whole carry entry day left soFar out) where
+module _ {b : Basis} {yearly : ℕ} {whole : List ℕ} {carry : ℕ} {entry : List ℕ} {day : CalendarDay} {left : ℕ} {soFar : Totals} {out : List ℕ}
+    (l : DaysLeft b yearly whole carry entry day left soFar out) where
   pub all-done : left ≤ 0 → Filled yearly whole carry entry soFar out
-  all-done none = done (rw (powers-none values group holidays left (day .date) none) at (l .todo))
+  all-done none = done (rw (powers-none b left (day .date) none) at (l .todo))
 
   module _ (some : 0 < left) where
-    split : Left yearly whole carry entry (dayPowers values group holidays (day .date) ++ powersFrom values group holidays (left - 1) (nextDay (day .date))) soFar out
-    split = rw (powers-next values group holidays left (day .date) some) at (l .todo)
+    split : Left yearly whole carry entry (dayPowers b (day .date) ++ powersFrom b (left - 1) (nextDay (day .date))) soFar out
+    split = rw (powers-next b left (day .date) some) at (l .todo)
 
     pub this-day : RealDay day
     this-day = record { real = all-first left (day .date) (l .real .all) some; known = l .real .known }
 
-    pub day-room : Room yearly (dayPowers values group holidays (day .date)) soFar out
-    day-room = next-room _ (powersFrom values group holidays (left - 1) (nextDay (day .date))) split
+    pub day-room : Room yearly (dayPowers b (day .date)) soFar out
+    day-room = next-room _ (powersFrom b (left - 1) (nextDay (day .date))) split
 
-    pub day-turn : {r : Totals} {after : List ℕ} {next : CalendarDay} → Added yearly (dayPowers values group holidays (day .date)) soFar out r after →
-        next ≡ calendarDay (nextDay (day .date)) → DaysLeft values group holidays yearly whole carry entry next (left - 1) r after
+    pub day-turn : {r : Totals} {after : List ℕ} {next : CalendarDay} → Added yearly (dayPowers b (day .date)) soFar out r after →
+        next ≡ calendarDay (nextDay (day .date)) → DaysLeft b yearly whole carry entry next (left - 1) r after
     day-turn did e =
         let few = l .real .few in
         rw e
         (record {
           real = record { known = refl; few = omega arith; all = all-next left (day .date) (l .real .all) };
-          todo = turn (dayPowers values group holidays (day .date)) _ split did;
+          todo = turn (dayPowers b (day .date)) _ split did;
         })
 
     -- the last day, stored and added
-    pub last-day : {r : Totals} {after : List ℕ} → left ≤ 1 → Added yearly (dayPowers values group holidays (day .date)) soFar out r after →
+    pub last-day : {r : Totals} {after : List ℕ} → left ≤ 1 → Added yearly (dayPowers b (day .date)) soFar out r after →
         Filled yearly whole carry entry r after
     last-day one did =
-        done (rw (powers-none values group holidays (left - 1) (nextDay (day .date)) (omega arith)) at (turn (dayPowers values group holidays (day .date)) _ split did))
+        done (rw (powers-none b (left - 1) (nextDay (day .date)) (omega arith)) at (turn (dayPowers b (day .date)) _ split did))

@@ -30,7 +30,7 @@ use Rattle.carry_day.specs.Inside.{DayCarried}
 use Rattle.carry_day.proofs.TwoRanges.{stored-figures}
 use Rattle.day_powers.specs.DayTable.{tableIndex, tableAt, dayValues}
 use Rattle.day_powers.specs.Inside.{powersBy}
-use Rattle.day_powers.specs.DayQuarters.{dayQuarters}
+use Rattle.day_powers.specs.DayQuarters.{Basis, dayQuarters}
 use Rattle.day_powers.proofs.DayQuarters.{powers-small, length-day-quarters, day-powers-positions}
 use Rattle.series.specs.Inside.{GroupValues, InRange, Room, Added}
 
@@ -46,33 +46,33 @@ module _ {day : CalendarDay} (real : RealDay day) where
   t-in-year = rw (own-t real) (in-year (day .date) (real .real))
 
   -- the factor of its t, and the table of its season and day type
-  pub own-powers : {s : Season} {k : DayType} {index f : ℕ} {all : List ℕ} (values : List ℕ) (group : ℕ) (holidays : List ℕ) →
-      s ≡ season (day .date) → k ≡ dayType (day .date) holidays → index ≡ tableIndex s k → f ≡ F group (day .t) →
-      all ≡ powersBy f (tableAt index values) → all ≡ powersBy (F group (dayOfYear (day .date))) (dayValues values holidays (day .date))
+  pub own-powers : {s : Season} {k : DayType} {index f : ℕ} {all : List ℕ} (b : Basis) →
+      s ≡ season (day .date) → k ≡ dayType (day .date) (b .holidays) → index ≡ tableIndex s k → f ≡ F (b .group) (day .t) →
+      all ≡ powersBy f (tableAt index (b .values)) → all ≡ powersBy (F (b .group) (dayOfYear (day .date))) (dayValues (b .values) (b .holidays) (day .date))
   unfolding dayValues
-  own-powers values group holidays s k i f e = e ∙ rw (f, own-t real, i, s, k)
+  own-powers b s k i f e = e ∙ rw (f, own-t real, i, s, k)
 
 -- a day's powers, before the clock change and after it
-abbrev pub powersBefore : List ℕ → ℕ → List ℕ → Date → List ℕ
-powersBefore values group holidays d = powersBy (F group (dayOfYear d)) (dayValues values holidays d)
+abbrev pub powersBefore : Basis → Date → List ℕ
+powersBefore b d = powersBy (F (b .group) (dayOfYear d)) (dayValues (b .values) (b .holidays) d)
 
-abbrev pub dayPowers : List ℕ → ℕ → List ℕ → Date → List ℕ
-dayPowers values group holidays d = powers (dayQuarters values group holidays d)
+abbrev pub dayPowers : Basis → Date → List ℕ
+dayPowers b d = powers (dayQuarters b d)
 
-module _ {values : List ℕ} (sound : GroupValues values) (group : ℕ) (holidays : List ℕ) (d : Date) where
-  pub day-powers-small : isDate d ≡ true → (i : ℕ) → getD (powersBefore values group holidays d) i 0 ≤ 40_000
+module _ (b : Basis) (sound : GroupValues (b .values)) (d : Date) where
+  pub day-powers-small : isDate d ≡ true → (i : ℕ) → getD (powersBefore b d) i 0 ≤ 40_000
   unfolding dayValues
-  day-powers-small h = powers-small values (tableIndex (season d) (dayType d holidays)) _ (sound .small) (F-small group (dayOfYear d) (in-year d h))
+  day-powers-small h = powers-small (b .values) (tableIndex (season d) (dayType d (b .holidays))) _ (sound .small) (F-small (b .group) (dayOfYear d) (in-year d h))
 
   -- with the day's powers and its clock
-  module _ {all : List ℕ} {c : Clock} (e : all ≡ powersBefore values group holidays d) (k : c ≡ clock d) where
-    changed : positions c all ≡ dayPowers values group holidays d
-    changed = rw (e, k) (sym (day-powers-positions values group holidays d))
+  module _ {all : List ℕ} {c : Clock} (e : all ≡ powersBefore b d) (k : c ≡ clock d) where
+    changed : positions c all ≡ dayPowers b d
+    changed = rw (e, k) (sym (day-powers-positions b d))
 
-    counted : length (dayPowers values group holidays d) ≡ valuesUnder c
-    counted = rw k (length-map (dayQuarters values group holidays d) _ ∙ length-day-quarters values group holidays d (sound .whole))
+    counted : length (dayPowers b d) ≡ valuesUnder c
+    counted = rw k (length-map (dayQuarters b d) _ ∙ length-day-quarters b d (sound .whole))
 
-    module _ {yearly : ℕ} {before : Totals} {out : List ℕ} (room : Room yearly (dayPowers values group holidays d) before out) where
+    module _ {yearly : ℕ} {before : Totals} {out : List ℕ} (room : Room yearly (dayPowers b d) before out) where
       pub carry-asked : isDate d ≡ true → InRange yearly (before .carry) → SmallPowers all yearly (before .carry) × (before .count + valuesUnder c ≤ length out)
       carry-asked h range =
           let entries = room .entries in
@@ -84,12 +84,12 @@ module _ {values : List ℕ} (sound : GroupValues values) (group : ℕ) (holiday
       pub total-fits : {total : ℕ} → total ≡ sum (figures yearly (positions c all) (before .carry)) → before .total + total < 2 ^ 64
       total-fits h = let t = room .total in omega (arith, rw changed at h)
 
-      pub added : {r : Carried} {after : List ℕ} {n : ℕ} → DayCarried all c yearly (before .carry) out (before .count) r after → n ≡ valuesUnder c → Added yearly (dayPowers values group holidays d) before out
+      pub added : {r : Carried} {after : List ℕ} {n : ℕ} → DayCarried all c yearly (before .carry) out (before .count) r after → n ≡ valuesUnder c → Added yearly (dayPowers b d) before out
           (record { count = before .count + n; total = before .total + r .total; carry = r .carry }) after
       added did same =
           let n = counted in
           let entries = room .entries in
-          let figs = figures yearly (dayPowers values group holidays d) (before .carry) in
+          let figs = figures yearly (dayPowers b d) (before .carry) in
           record {
             stored = (rw changed at (did .figuresStored)) ∙ sym (stored-figures figs out (before .count) _ (length-figures yearly _ (before .carry) ∙ n) (omega arith));
             count = omega arith;

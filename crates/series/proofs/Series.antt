@@ -12,7 +12,7 @@ use Rattle.calendar_dates.specs.declared.Date.{Date}
 use Rattle.calendar_dates.specs.Dates.{nextDay, daysLater}
 use Rattle.calendar_period.specs.Period.{valuesOfDays}
 use Rattle.carry.specs.Energy.{Quarter}
-use Rattle.day_powers.specs.DayQuarters.{dayQuarters}
+use Rattle.day_powers.specs.DayQuarters.{Basis, dayQuarters}
 use Rattle.day_powers.proofs.DayQuarters.{length-day-quarters}
 use Rattle.series.specs.Series.{quartersOfDays}
 
@@ -45,9 +45,9 @@ module _ (day : Date → List Quarter) where
       (each-quarter property n (nextDay d) (λ k l. h (suc k) (omega arith)))
 
 -- "entries needed": as many quarter hours as the days have values
-pub length-quarters : (values : List ℕ) (group : ℕ) (holidays : List ℕ) (n : ℕ) (d : Date) → length values ≡ 864 → length (quartersOfDays (dayQuarters values group holidays) n d) ≡ valuesOfDays n d
+pub length-quarters : (b : Basis) (n : ℕ) (d : Date) → length (b .values) ≡ 864 → length (quartersOfDays (dayQuarters b) n d) ≡ valuesOfDays n d
 unfolding quartersOfDays valuesOfDays
-length-quarters values group holidays zero d h = refl
-length-quarters values group holidays (suc n) d h =
-    length-append (dayQuarters values group holidays d) _
-    ∙ (rw (length-day-quarters values group holidays d h, length-quarters values group holidays n (nextDay d) h))
+length-quarters b zero d h = refl
+length-quarters b (suc n) d h =
+    length-append (dayQuarters b d) _
+    ∙ (rw (length-day-quarters b d h, length-quarters b n (nextDay d) h))

@@ -11,7 +11,7 @@ use Rattle.calendar_dates.specs.Dates.{numberOf}
 use Rattle.calendar_holidays.specs.Holidays.{holidaysQuestion}
 use Rattle.calendar_holidays.specs.Inside.{Reached}
 use Rattle.carry.specs.declared.Totals.{Totals}
-use Rattle.carry.specs.Carry.{figures, lastCarry}
+use Rattle.carry.specs.Carry.{largestUse, largestCarry, figures, lastCarry}
 
 -- a group's values: 864, none above 20,000
 pub record GroupValues (values : List ℕ) : Type 0 where
@@ -25,8 +25,8 @@ pub record InList (holidays : List ℕ) (place : ℕ) (d : Date) : Type 0 where
 
 -- a yearly use and a carry in range
 pub record InRange (yearly carry : ℕ) : Type 0 where
-  pub yearlySmall : yearly ≤ 10 ^ 9
-  pub carrySmall : carry < 40_000
+  pub yearlySmall : yearly ≤ largestUse
+  pub carrySmall : carry ≤ largestCarry
 
 -- the figures of some powers have room in the output and in the total
 pub record Room (yearly : ℕ) (powers : List ℕ) (before : Totals) (out : List ℕ) : Type 0 where

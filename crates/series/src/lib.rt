@@ -12,7 +12,7 @@ ghost use Rattle.dynamisation.specs.Dynamisation.{F};
 ghost use Rattle.carry.specs.Energy.{powers};
 ghost use Rattle.day_powers.specs.DayTable.{dayValues};
 ghost use Rattle.day_powers.specs.Inside.{powersBy};
-ghost use Rattle.day_powers.specs.DayQuarters.{dayQuarters};
+ghost use Rattle.day_powers.specs.DayQuarters.{basis, dayQuarters};
 ghost use Rattle.series.specs.Inside.{GroupValues, InList, InRange, Room, Added, Filled};
 ghost use Rattle.series.specs.Series.{quartersOfDays};
 
@@ -52,8 +52,10 @@ fn expand_day(
     requires { ⌜ RealDay day ⌝ }
     requires { ⌜ InList (now holidays) place (day .date) ⌝ }
     requires { ⌜ InRange yearly (before .carry) ⌝ }
-    requires { ⌜ Room yearly (powers (dayQuarters (now values) group (now holidays) (day .date))) before (now out) ⌝ }
-    ensures { λ r. ⌜ Added yearly (powers (dayQuarters (now (values .entry)) group (now (holidays .entry)) (day .date))) before (now (out .entry)) r (now (out .exit)) ⌝ }
+    requires { ⌜ Room yearly (powers (dayQuarters (basis (now values) group (now holidays)) (day .date))) before (now out) ⌝ }
+    ensures { λ r. ⌜
+        Added yearly (powers (dayQuarters (basis (now (values .entry)) group (now (holidays .entry))) (day .date)))
+        before (now (out .entry)) r (now (out .exit)) ⌝ }
 {
     let clock = calendar_days::clock_of(day.date, day.weekday);
     let at = before.count;
@@ -90,9 +92,11 @@ pub fn expand_days(
     requires { ⌜ RealDays first days ⌝ }
     requires { ⌜ holidaysQuestion (now holidays) ≡ Pass ⌝ }
     requires { ⌜ InRange yearly carry ⌝ }
-    requires { ⌜ length (quartersOfDays (dayQuarters (now values) group (now holidays)) days (first .date)) ≤ length (now out) ⌝ }
+    requires { ⌜ length (quartersOfDays (dayQuarters (basis (now values) group (now holidays))) days (first .date)) ≤ length (now out) ⌝ }
     requires { ⌜ 0 < days ⌝ }
-    ensures { λ r. ⌜ Filled yearly (powers (quartersOfDays (dayQuarters (now (values .entry)) group (now (holidays .entry))) days (first .date))) carry (now (out .entry)) r (now (out .exit)) ⌝ }
+    ensures { λ r. ⌜
+        Filled yearly (powers (quartersOfDays (dayQuarters (basis (now (values .entry)) group (now (holidays .entry)))) days (first .date)))
+        carry (now (out .entry)) r (now (out .exit)) ⌝ }
 {
     let mut day = first;
     let mut left = days;

@@ -10,7 +10,7 @@ use Rattle.calendar_dates.specs.Dates.{isDate, dayOfYear, daysLater}
 use Rattle.calendar_period.specs.Period.{valuesOfDays}
 use Rattle.dynamisation.specs.Dynamisation.{X}
 use Rattle.carry.specs.Energy.{Quarter}
-use Rattle.day_powers.specs.DayQuarters.{dayQuarters}
+use Rattle.day_powers.specs.DayQuarters.{Basis, dayQuarters}
 use Rattle.series.specs.Series.{quartersOfDays}
 
 -- Three theorems, proved in proofs/Series.antt.
@@ -24,8 +24,8 @@ PeriodsJoin =
 -- a period has as many quarter hours as its days have values
 unfoldable pub CountedSeries : Type 0
 CountedSeries =
-    (values : List ℕ) (group : ℕ) (holidays : List ℕ) (n : ℕ) (d : Date) → length values ≡ 864 →
-    length (quartersOfDays (dayQuarters values group holidays) n d) ≡ valuesOfDays n d
+    (b : Basis) (n : ℕ) (d : Date) → length (b .values) ≡ 864 →
+    length (quartersOfDays (dayQuarters b) n d) ≡ valuesOfDays n d
 
 -- the theorem: X of a date's day is the whole number that its quarter hours have.
 unfoldable pub ExactX : Type 0

@@ -7,7 +7,7 @@ use borrow.Author.Needs.{needs}
 use Rattle.refusal.specs.Questions.{roomQuestion}
 use Rattle.refusal.proofs.Questions.{room-passed}
 use Rattle.file_group.proofs.Group.{values-inside}
-use Rattle.day_powers.specs.DayQuarters.{dayQuarters}
+use Rattle.day_powers.specs.DayQuarters.{basis, dayQuarters}
 use Rattle.series.specs.Series.{quartersOfDays}
 use Rattle.call_request.specs.Request.{Request, request, quarters, series}
 use Rattle.call_request.proofs.Request.{series-length}
@@ -41,7 +41,8 @@ abbrev of-values : tie.After-values-at → tie.After-known-told
 of-values c = of-room (c .before .before .before)
 
 quarters-are : (c : tie.After-values-at) →
-    quartersOfDays (dayQuarters (c .values-at .result) (asked (of-values c) .group) (asked (of-values c) .holidays)) (of-values c .before .opening .given .0 .0 .days) (of-values c .before .opening .given .0 .0 .first .date)
+    quartersOfDays (dayQuarters (basis (c .values-at .result) (asked (of-values c) .group) (asked (of-values c) .holidays)))
+    (of-values c .before .opening .given .0 .0 .days) (of-values c .before .opening .given .0 .0 .first .date)
     ≡ quarters (asked (of-values c))
 quarters-are c = same-quarters (asked (of-values c)) (opened (of-values c)) (c .values-at .ensures)
 

@@ -1,6 +1,7 @@
 -- `program_listing::list_days` meets its contract. The invariant: what is put and the lines of the days left come to the whole
 -- (proofs/LineByLine.antt). Assumes nothing.
 use native.Mathlib.Omega.{arith}
+use Rattle.day_powers.specs.DayQuarters.{basis}
 use Rattle.series.proofs.DayByDay.{this-day}
 use Rattle.program_listing.proofs.LineByLine.{LinesLeft, begin, page-length, end, line-room, turn}
 use Rattle.program_listing.proofs.list_days.Statement.{statement}
@@ -8,7 +9,7 @@ use Rattle.program_listing.proofs.list_days.Tie as tie
 
 abbrev Inv-loop : tie.InvT-loop
 Inv-loop values group days holidays yearly page₀ day₀ left₀ so-far₀ page day left so-far =
-    LinesLeft values group holidays yearly days (day₀ .date) page₀ day left so-far page
+    LinesLeft (basis values group holidays) yearly days (day₀ .date) page₀ day left so-far page
 
 abbrev μ-loop : tie.MeasureT-loop
 μ-loop values group days holidays yearly page₀ day₀ left₀ so-far₀ page day left so-far = left
@@ -16,7 +17,7 @@ abbrev μ-loop : tie.MeasureT-loop
 loop-holds : tie.Need-loop-holds Inv-loop μ-loop
 loop-holds c =
     let start = c .before .before .before in
-    begin (start .pre .0) (start .args .group) (start .args .holidays .now) (start .pre .1 .0) (start .pre .1 .1 .1 .0) (start .pre .1 .1 .1 .1)
+    begin (basis (start .args .values .now) (start .args .group) (start .args .holidays .now)) (start .pre .0) (start .pre .1 .0) (start .pre .1 .1 .1 .0) (start .pre .1 .1 .1 .1)
 
 list-day-requires : tie.Need-list-day-requires Inv-loop μ-loop
 list-day-requires c κs =

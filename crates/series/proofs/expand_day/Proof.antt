@@ -3,9 +3,14 @@
 use native.Mathlib.Omega.{arith}
 use borrow.Author.Needs.{needs}
 use Rattle.calendar_period.proofs.Period.{own-weekday}
+use Rattle.day_powers.specs.DayQuarters.{Basis, basis}
 use Rattle.series.proofs.OneDay.{carry-asked, total-fits, added}
 use Rattle.series.proofs.expand_day.Statement.{statement}
 use Rattle.series.proofs.expand_day.Tie as tie
+
+-- what the day's quarter hours are made from
+abbrev given : tie.Start → Basis
+given start = basis (start .args .values .now) (start .args .group) (start .args .holidays .now)
 
 clock-of-requires : tie.Need-clock-of-requires
 clock-of-requires c κs =
@@ -20,7 +25,7 @@ carry-day-requires c κs =
     let asked = c .before in
     let start = asked .before .before .before .before .before in
     let (small, room) =
-    carry-asked (start .pre .0) (start .args .group) (start .args .holidays .now) (start .args .day .date)
+    carry-asked (given start) (start .pre .0) (start .args .day .date)
     (asked .powers-on .ensures) (asked .before .clock-of .ensures) (start .pre .1 .1 .1 .1) (start .pre .1 .0 .real) (start .pre .1 .1 .1 .0) in
     (small, omega arith)
 
@@ -39,7 +44,7 @@ add-total c =
     let asked = called .before .before in
     let start = asked .before .before .before .before .before in
     let fits =
-    total-fits (start .pre .0) (start .args .group) (start .args .holidays .now) (start .args .day .date)
+    total-fits (given start) (start .pre .0) (start .args .day .date)
     (asked .powers-on .ensures) (asked .before .clock-of .ensures) (start .pre .1 .1 .1 .1) (called .carry-day .ensures .totalIs) in
     omega arith
 
@@ -51,7 +56,7 @@ returns c =
     let called = c .before .before .before .before .before in
     let asked = called .before .before in
     let start = asked .before .before .before .before .before in
-    added (start .pre .0) (start .args .group) (start .args .holidays .now) (start .args .day .date)
+    added (given start) (start .pre .0) (start .args .day .date)
     (asked .powers-on .ensures) (asked .before .clock-of .ensures) (start .pre .1 .1 .1 .1) (called .carry-day .ensures) (c .before .before .values-under .ensures)
 
 pub expand-day-spec : {M : Type 1} → statement M

@@ -14,6 +14,7 @@ use Rattle.calendar_holidays.proofs.Holidays.{from-start, on-later-day}
 use Rattle.calendar_period.specs.declared.CalendarDay.{CalendarDay}
 use Rattle.calendar_period.specs.Inside.{RealDay}
 use Rattle.carry.specs.declared.Totals.{Totals}
+use Rattle.day_powers.specs.DayQuarters.{Basis, basis}
 use Rattle.series.specs.Inside.{GroupValues, InList, InRange, Room}
 use Rattle.series.proofs.DayByDay.{added-length, start, kept-length, powersFrom, length-powers, whole-fits, DaysLeft, this-day, day-room, day-turn, last-day}
 use Rattle.series.proofs.OneDay.{dayPowers}
@@ -22,7 +23,7 @@ use Rattle.series.proofs.expand_days.Tie as tie
 
 abbrev Inv-loop : tie.InvT-loop
 Inv-loop values group days holidays yearly carry out₀ day₀ left₀ so-far₀ place₀ out day left so-far place =
-    DaysLeft values group holidays yearly (powersFrom values group holidays days (day₀ .date)) carry out₀ day left so-far out
+    DaysLeft (basis values group holidays) yearly (powersFrom (basis values group holidays) days (day₀ .date)) carry out₀ day left so-far out
     × Passed holidays place (numberOf (day .date))
     × (0 < left)
 
@@ -30,11 +31,11 @@ abbrev μ-loop : tie.MeasureT-loop
 μ-loop values group days holidays yearly carry out₀ day₀ left₀ so-far₀ place₀ out day left so-far place = left
 
 -- what a day's expanding requires, in the loop and behind it
-next-day-given : {values : List ℕ} {group : ℕ} {holidays : List ℕ} {yearly : ℕ} {whole : List ℕ} {carry : ℕ} {entry : List ℕ} {day : CalendarDay} {left : ℕ} {soFar : Totals} {out : List ℕ} {place k : ℕ} →
-    GroupValues values → holidaysQuestion holidays ≡ Pass → InRange yearly k → Reached holidays place (numberOf (day .date)) →
-    DaysLeft values group holidays yearly whole carry entry day left soFar out → 0 < left →
-    GroupValues values
-    × (RealDay day × (InList holidays place (day .date) × (InRange yearly (soFar .carry) × Room yearly (dayPowers values group holidays (day .date)) soFar out)))
+next-day-given : {b : Basis} {yearly : ℕ} {whole : List ℕ} {carry : ℕ} {entry : List ℕ} {day : CalendarDay} {left : ℕ} {soFar : Totals} {out : List ℕ} {place k : ℕ} →
+    GroupValues (b .values) → holidaysQuestion (b .holidays) ≡ Pass → InRange yearly k → Reached (b .holidays) place (numberOf (day .date)) →
+    DaysLeft b yearly whole carry entry day left soFar out → 0 < left →
+    GroupValues (b .values)
+    × (RealDay day × (InList (b .holidays) place (day .date) × (InRange yearly (soFar .carry) × Room yearly (dayPowers b (day .date)) soFar out)))
 next-day-given sound inOrder range reached l some = (
   sound,
   (
@@ -50,11 +51,12 @@ loop-holds : tie.Need-loop-holds Inv-loop μ-loop
 loop-holds c =
     let begin = c .before .before .before in
     let a = begin .args in
+    let b = basis (a .values .now) (a .group) (a .holidays .now) in
     let range = begin .pre .1 .1 .1 .0 in
-    let entries = length-powers (a .values .now) (a .group) (a .holidays .now) (a .days) (a .first .date) in (
+    let entries = length-powers b (a .days) (a .first .date) in (
       record {
         real = begin .pre .1 .0;
-        todo = start (range .carrySmall) (omega arith) (whole-fits (begin .pre .0) (a .group) (a .holidays .now) range (begin .pre .1 .0));
+        todo = start (range .carrySmall) (omega arith) (whole-fits b (begin .pre .0) range (begin .pre .1 .0));
       },
       from-start (a .holidays .now) (numberOf (a .first .date)),
       omega arith,

@@ -6,6 +6,7 @@ use Rattle.calendar_holidays.specs.Holidays.{listed}
 use Rattle.calendar_days.specs.Days.{dayTypeWhen}
 use Rattle.calendar_period.proofs.Period.{own-weekday}
 use Rattle.dynamisation.proofs.Dynamisation.{F-small}
+use Rattle.day_powers.specs.DayQuarters.{basis}
 use Rattle.series.proofs.OneDay.{t-in-year, own-powers}
 use Rattle.series.proofs.powers_on.Statement.{statement}
 use Rattle.series.proofs.powers_on.Tie as tie
@@ -46,7 +47,7 @@ returns c =
     let start = kind .before .before .before .before .before .before in
     let holidays = start .args .holidays .now in
     let holiday = kind .before .is-listed-at .ensures ∙ ap (λ n. listed n holidays) (kind .before .before .number-of .ensures) in
-    own-powers (start .pre .1 .0) (start .args .values .now) (start .args .group) holidays
+    own-powers (start .pre .1 .0) (basis (start .args .values .now) (start .args .group) holidays)
     (kind .before .before .before .season-of .ensures) (kind .day-type-when .ensures ∙ ap (dayTypeWhen (start .args .day .date)) holiday)
     (asked .table-index .ensures .0) (c .before .factor .ensures) (c .powers-of .ensures)
 
