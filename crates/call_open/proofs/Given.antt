@@ -52,7 +52,7 @@ module _ (file : List ℕ) (group : ℕ) (c : Checked file group) where
   value-small i false h =
       omega (arith, List·getD-eq-default (tableOf file group) 0 {n = i} (omega (arith, table-length file group, ltb-false i (layoutOf file .values) h)))
 
-  table-values : GroupValues (tableOf file group)
+  pub table-values : GroupValues (tableOf file group)
   unfolding layoutOf
   table-values = record { whole = table-length file group; small = λ i. value-small i (ltb i (layoutOf file .values)) refl }
 

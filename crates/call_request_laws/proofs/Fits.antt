@@ -10,13 +10,12 @@ use Rattle.lists.specs.Lists.{Each}
 use Rattle.calendar_dates.specs.Dates.{dateOf}
 use Rattle.calendar_period.specs.Inside.{calendarDay}
 use Rattle.calendar_period.proofs.Period.{values-small}
-use Rattle.file_group.proofs.Group.{checked}
 use Rattle.carry.specs.Carry.{largestUse, largestCarry, figures}
 use Rattle.carry.specs.Energy.{powers}
 use Rattle.series.proofs.DayByDay.{Small, all-small, whole-fits}
 use Rattle.call_request.specs.Request.{daysIn, basisOf, quarters, series}
 use Rattle.call_request.proofs.Request.{sound, entries-needed}
-use Rattle.call_request.proofs.Given.{table-values, real-days}
+use Rattle.call_open.proofs.Given.{answers-request, table-values, opened-for}
 use Rattle.call_request_laws.specs.Fits.{FiguresFit, LongestSeries}
 
 -- small powers make small figures
@@ -30,13 +29,12 @@ figures-small yearly (p ∷ ps) carry a b s =
 pub figures-fit : FiguresFit
 unfolding FiguresFit series
 figures-fit q h =
-    let s = sound q h in
-    let found = checked (q .file) (q .group) (s .file) in
-    let values = table-values (q .file) (q .group) (found .passed) (found .at) in
-    let day = calendarDay (dateOf (q .first)) in
-    let real = real-days q day (daysIn q) s refl refl in (
+    let opened = opened-for q (answers-request h refl) in
+    let s = opened .sound in
+    let values = table-values (q .file) (q .group) (opened .found .checked) in
+    let real = opened .real in (
       figures-small (q .yearly) (powers (quarters q)) (q .carry) (s .yearly) (s .carry) (all-small (basisOf q) values (daysIn q) (dateOf (q .first)) (real .all)),
-      whole-fits (basisOf q) values {first = day} (record { yearlySmall = s .yearly; carrySmall = s .carry }) real,
+      whole-fits (basisOf q) values {first = calendarDay (dateOf (q .first))} (record { yearlySmall = s .yearly; carrySmall = s .carry }) real,
     )
 
 pub longest-series : LongestSeries

@@ -4,29 +4,29 @@ use mathlib.Core.List.{List, [], _∷_}
 use Prim.Native.Nat.{ℕ, zero, suc, _+_}
 use native.Mathlib.Nat.{add-zero}
 use native.Mathlib.Omega.{arith}
-use lib.ListN.{drop}
+use lib.ListN.{length, drop}
 use lib.Seq.{getD-drop, drop-drop}
 use Rattle.lists.specs.Lists.{sum, Each, eachFrom}
 use Rattle.big_endian.specs.BigEndian.{byteAt}
 use Rattle.refusal.specs.declared.Refusal.the-variants.{BadValue}
 use Rattle.refusal.specs.declared.Verdict.the-variants.{Pass}
 use Rattle.refusal.specs.declared.Verdict.{Verdict}
-use Rattle.refusal.specs.Questions.{ask, _then_, askEach}
+use Rattle.refusal.specs.Questions.{ask, _then_, askEach, roomQuestion}
 use Rattle.refusal.proofs.Questions.{ask-yes, then-pass}
 use Rattle.calendar_dates.specs.Dates.{leapDays, monthLength, isDate, daysOfMonths, dayOfYear, daysOfYears, dayNumber, weekdayOf, nextDay}
 use Rattle.calendar_holidays.specs.Holidays.{listed, holidaysQuestion}
 use Rattle.calendar_days.specs.Days.{season, dayTypeWhen, lastSunday, clock, positions}
-use Rattle.calendar_period.specs.Period.{dateQuestion, daysOf, periodQuestion, periodCheck}
+use Rattle.calendar_period.specs.Period.{dateQuestion, daysOf, periodQuestion}
 use Rattle.file_layout.specs.Header.{layoutOf, markQuestion, versionQuestion, lengthQuestion, headerCheck}
 use Rattle.file_values.specs.Values.{valueQuestion, profileValuesQuestion}
 use Rattle.file_check.specs.Check.{codeQuestion, fileCheck}
-use Rattle.file_group.specs.Group.{findAmong, groupQuestion, check}
+use Rattle.file_group.specs.Group.{offsetAmong, groupQuestion, check}
 use Rattle.dynamisation.specs.Dynamisation.{X, F, Q}
 use Rattle.carry.specs.Carry.{figures, lastCarry}
 use Rattle.day_powers.specs.DayTable.{dayValues}
 use Rattle.day_powers.specs.DayQuarters.{dayQuarters}
 use Rattle.series.specs.Series.{quartersOfDays}
-use Rattle.call_request.specs.Request.{Request, series, useQuestion, carryQuestion, outputQuestion}
+use Rattle.call_request.specs.Request.{Request, series, useQuestion, carryQuestion, fromPeriodOn}
 use Rattle.call_expansion.specs.Answered.{answered}
 use Rattle.call_expand.specs.Expanding.{expandCheck, totals, expansion}
 use Rattle.claim_successive.specs.SuccessiveCalls.{ByContract, accepted, Successive, SuccessiveCalls}
@@ -46,14 +46,14 @@ small-values file (suc n) at e =
 
 -- the file passes questions 1 to 6
 passes : check listingFile 1 ≡ Pass
-unfolding ask _then_ askEach layoutOf markQuestion versionQuestion lengthQuestion headerCheck codeQuestion profileValuesQuestion fileCheck findAmong groupQuestion
+unfolding ask _then_ askEach layoutOf markQuestion versionQuestion lengthQuestion headerCheck codeQuestion profileValuesQuestion fileCheck offsetAmong groupQuestion
 passes = then-pass _ (then-pass Pass (small-values listingFile 864 7 refl))
 
 -- so the other questions decide
 abbrev afterFile : Request → Verdict
 afterFile q =
-    (periodCheck (q .first) (q .last) then holidaysQuestion (q .holidays) then useQuestion (q .yearly) then carryQuestion (q .carry))
-    then outputQuestion q
+    fromPeriodOn (q .first) (q .last) (q .holidays) (q .yearly) (q .carry)
+    then roomQuestion (length (series q)) (length (q .output))
 
 passed-file : (q : Request) → check (q .file) (q .group) ≡ Pass → expansion q ≡ answered (afterFile q) (totals q)
 unfolding expansion expandCheck _then_
@@ -63,7 +63,7 @@ by-contract : (q : Request) → ByContract (callFor q)
 by-contract q = record { answers = refl; leaves = refl }
 
 pub worked-instance : WorkedInstance
-unfolding ask _then_ askEach layoutOf findAmong eachFrom X F Q leapDays monthLength isDate daysOfMonths dayOfYear daysOfYears dayNumber weekdayOf nextDay season listed dayTypeWhen lastSunday clock positions dateQuestion holidaysQuestion daysOf periodQuestion dayValues dayQuarters quartersOfDays series figures lastCarry sum useQuestion carryQuestion accepted Successive SuccessiveCalls
+unfolding ask _then_ askEach roomQuestion layoutOf offsetAmong eachFrom X F Q leapDays monthLength isDate daysOfMonths dayOfYear daysOfYears dayNumber weekdayOf nextDay season listed dayTypeWhen lastSunday clock positions dateQuestion holidaysQuestion daysOf periodQuestion dayValues dayQuarters quartersOfDays series figures lastCarry sum useQuestion carryQuestion accepted Successive SuccessiveCalls
 worked-instance =
     let first = passed-file saturday passes in
     let refused = passed-file between passes in

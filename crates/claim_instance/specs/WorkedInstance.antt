@@ -4,7 +4,6 @@ use mathlib.Core.List.{List, [], _∷_, _++_}
 use Prim.Native.Nat.{ℕ, zero, suc}
 use Rattle.lists.specs.Lists.{Each}
 use Rattle.refusal.specs.declared.Refusal.the-variants.{BadCarry}
-use Rattle.refusal.specs.declared.Verdict.{Verdict}
 use Rattle.file_layout.specs.Header.{mark}
 use Rattle.call_request.specs.Request.{Request, request}
 use Rattle.call_expansion.specs.declared.Expansion.the-variants.{Expanded, Refused}
@@ -48,7 +47,7 @@ common = record { file = listingFile; group = 1; holidays = []; yearly = 1_000 }
 pub record WorkedInstance : Type 0 where
   -- "2000-03-25 T2 96 2402", "2000-03-26 T3 92 2302"
   pub onSaturday : expansion saturday ≡ Expanded (record { count = 96; total = 2_402; carry = 16_000 })
-  pub refusedBetween : expansion between ≡ Refused (Verdict.Refused BadCarry)
+  pub refusedBetween : expansion between ≡ Refused BadCarry
   pub onSunday : expansion sunday ≡ Expanded (record { count = 92; total = 2_302; carry = 28_000 })
   -- "total 2 188 4704 28000"
   pub ofBoth : expansion whole ≡ Expanded (record { count = 188; total = 4_704; carry = 28_000 })

@@ -3,10 +3,12 @@ use mathlib.Core.Path.{_≡_, _∙_, ap}
 use mathlib.Core.Bool.{true}
 use Prim.Native.Nat.{ℕ, _+_, _≤_, _<_}
 use native.Mathlib.Omega.{arith}
+use lib.ListN.{length}
 use borrow.Author.Tests.{le-leb}
 use Rattle.refusal.specs.declared.Refusal.the-variants.{BadUse, BadCarry}
 use Rattle.refusal.specs.declared.Verdict.{Verdict}
 use Rattle.refusal.specs.declared.Verdict.the-variants.{Pass}
+use Rattle.refusal.specs.Questions.{roomQuestion}
 use Rattle.refusal.proofs.Questions.{ask-yes, then-pass, then-first, then-next}
 use Rattle.calendar_dates.specs.declared.Date.{Date}
 use Rattle.calendar_dates.specs.Dates.{dateOf, dayNumber, daysLater, AllDates}
@@ -16,7 +18,7 @@ use Rattle.calendar_period.specs.Period.{daysOf}
 use Rattle.calendar_period.proofs.Period.{Period, period-passed, period-passes}
 use Rattle.calendar_laws.proofs.Periods.{period-days}
 use Rattle.carry.specs.Carry.{largestUse, largestCarry}
-use Rattle.call_request.specs.Request.{Request, useQuestion, carryQuestion, aheadOfPeriod, behindPeriod, requestCheck, outputQuestion}
+use Rattle.call_request.specs.Request.{Request, series, useQuestion, carryQuestion, aheadOfPeriod, behindPeriod, requestCheck}
 use Rattle.call_request.proofs.Request.{Sound, sound}
 use Rattle.call_expansion.specs.Answered.{answered}
 use Rattle.call_expand.specs.Expanding.{expandCheck, totals, expansion}
@@ -81,6 +83,6 @@ others-pass whole piece h p =
 pub output-alone : (whole : Call) (piece : Request) → ByContract whole → isAccepted (whole .answer) ≡ true → Piece (whole .given) piece → OutputAlone piece
 unfolding expandCheck expansion
 output-alone whole piece e h p =
-    let others = others-pass (whole .given) piece (then-first _ (outputQuestion (whole .given)) (took whole e h .passed)) p in
-    let all : expandCheck piece ≡ outputQuestion piece = then-pass (outputQuestion piece) others in
+    let others = others-pass (whole .given) piece (then-first (requestCheck (whole .given)) _ (took whole e h .passed)) p in
+    let all : expandCheck piece ≡ roomQuestion (length (series piece)) (length (piece .output)) = then-pass _ others in
     record { others = others; answerIs = ap (λ (v : Verdict). answered v (totals piece)) all }

@@ -9,12 +9,7 @@ use Rattle.call_expansion.specs.declared.Expansion.{Expansion}
 use Rattle.call_expansion.specs.declared.Expansion.the-variants.{Expanded, Refused}
 use Rattle.call_expansion.specs.declared.ExpansionReport.{ExpansionReport}
 use Rattle.call_expansion.specs.Answered.{reported}
-use Rattle.call_expand.specs.Expanding.{expansion, outputAfter, Expands}
-
--- the contract of the exported call, `slp_expand`: the report, and the output afterwards
-pub record Reports (q : Request) (report : ExpansionReport) (after : List ℕ) : Type 0 where
-  pub answers : report ≡ reported (expansion q)
-  pub leaves : after ≡ outputAfter q
+use Rattle.call_expand.specs.Expanding.{Expands, Reports}
 
 -- a call is accepted where its report's number is 0
 abbrev pub isAccepted : ExpansionReport → Bool
@@ -23,7 +18,7 @@ isAccepted report = eqb (report .number) 0
 -- the case of `expand`'s own answer
 abbrev pub isExpanded : Expansion → Bool
 isExpanded (Expanded t) = true
-isExpanded (Refused v) = false
+isExpanded (Refused r) = false
 
 -- a call of `expand`, reported, is such a call, and its report tells whether it was accepted
 pub record AsReported (q : Request) (answer : Expansion) (after : List ℕ) : Type 0 where

@@ -7,16 +7,16 @@ use lib.Dec.{eqb}
 use lib.ListN.{length, take, drop}
 use Rattle.lists.specs.Lists.{sum, Each}
 use Rattle.refusal.specs.declared.Verdict.the-variants.{Pass}
-use Rattle.refusal.specs.Questions.{onPass}
+use Rattle.refusal.specs.Questions.{roomQuestion, onPass}
 use Rattle.calendar_dates.specs.Dates.{dateOf, nextDay}
 use Rattle.carry.specs.Energy.{Quarter, powers, exactSum, Within, householdBound, otherBound}
 use Rattle.carry.specs.Carry.{largestCarry, figures, lastCarry}
-use Rattle.call_request.specs.Request.{Request, quarters, series, requestCheck, outputQuestion}
+use Rattle.call_request.specs.Request.{Request, quarters, series, requestCheck}
 use Rattle.call_expansion.specs.declared.ExpansionReport.{ExpansionReport}
 use Rattle.call_expansion.specs.Answered.{answered, reported}
-use Rattle.call_expand.specs.Expanding.{expandCheck, totals, expansion}
+use Rattle.call_expand.specs.Expanding.{expandCheck, totals, expansion, Reports}
 use Rattle.claim_successive.specs.Pieces.{PieceOfPeriod}
-use Rattle.claim_successive.specs.Reports.{Reports, isAccepted, ExpandReports}
+use Rattle.claim_successive.specs.Reports.{isAccepted, ExpandReports}
 
 -- The calls.
 
@@ -167,7 +167,7 @@ pub record Piece (whole piece : Request) : Type 0 where
 -- "it passes every question but 12, and 12 where its own output is long enough"
 pub record OutputAlone (piece : Request) : Type 0 where
   pub others : requestCheck piece ≡ Pass
-  pub answerIs : expansion piece ≡ answered (outputQuestion piece) (totals piece)
+  pub answerIs : expansion piece ≡ answered (roomQuestion (length (series piece)) (length (piece .output))) (totals piece)
 
 -- The theorem. Proved in proofs/SuccessiveCalls.antt.
 unfoldable pub SuccessiveCalls : Type 0

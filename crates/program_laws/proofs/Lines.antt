@@ -4,16 +4,14 @@ use mathlib.Core.Path.{_≡_, sym, _∙_, ap}
 use mathlib.Core.List.{List, [], _∷_, append-nil}
 use Prim.Native.Nat.{ℕ, _≤_}
 use lib.ListN.{length}
-use borrow.Author.Tests.{le-leb}
-use Rattle.refusal.specs.declared.Refusal.the-variants.{ShortOutput}
 use Rattle.refusal.specs.declared.Refusal.{Refusal}
 use Rattle.refusal.specs.declared.Verdict.the-variants.{Pass, Refused}
-use Rattle.refusal.specs.Questions.{_then_}
-use Rattle.refusal.proofs.Questions.{ask-yes, then-pass}
+use Rattle.refusal.specs.Questions.{_then_, roomQuestion}
+use Rattle.refusal.proofs.Questions.{then-pass, room-enough}
 use Rattle.calendar_dates.specs.Dates.{dateOf}
 use Rattle.day_powers.specs.DayQuarters.{dayQuarters}
 use Rattle.series.specs.Series.{quartersOfDays}
-use Rattle.call_request.specs.Request.{Request, daysIn, basisOf, series, requestCheck, outputQuestion}
+use Rattle.call_request.specs.Request.{Request, daysIn, basisOf, series, requestCheck}
 use Rattle.call_request.proofs.Request.{series-length}
 use Rattle.call_expansion.specs.declared.Expansion.{Expansion}
 use Rattle.call_expansion.specs.declared.Expansion.the-variants.{Expanded}
@@ -31,12 +29,12 @@ module _ (q : Request) (output : List ℕ) where
   answer : requestCheck q ≡ Pass → length (series q) ≤ length output → expansion (lent q output) ≡ Expanded (totals q)
   unfolding expansion expandCheck series
   answer p room =
-      let pass : expandCheck (lent q output) ≡ Pass = then-pass (outputQuestion (lent q output)) p ∙ ask-yes (ShortOutput (length (series q))) (le-leb _ _ room) in
+      let pass : expandCheck (lent q output) ≡ Pass = then-pass _ p ∙ room-enough _ _ room in
       ap (λ v. answered v (totals (lent q output))) pass
 
-  refusal : (r : Refusal) → requestCheck q ≡ Refused r → expansion (lent q output) ≡ Expansion.Refused (Refused r)
+  refusal : (r : Refusal) → requestCheck q ≡ Refused r → expansion (lent q output) ≡ Expansion.Refused r
   unfolding expansion expandCheck _then_
-  refusal r h = ap (λ v. answered (v then outputQuestion (lent q output)) (totals (lent q output))) h
+  refusal r h = ap (λ v. answered (v then roomQuestion (length (series (lent q output))) (length output)) (totals (lent q output))) h
 
 module _ (q : Request) where
   one-day : daysIn q ≡ 1 → rowsOf q ≡ rowOf (dateOf (q .first)) (totals q .count) (totals q .total) ∷ []

@@ -5,11 +5,10 @@ use mathlib.Core.List.{List}
 use Prim.Native.Nat.{ℕ, _≤_}
 use native.Mathlib.Omega.{arith}
 use lib.ListN.{length, length-append}
-use borrow.Author.Tests.{le-leb}
 use Rattle.refusal.specs.declared.Verdict.{Verdict}
 use Rattle.refusal.specs.declared.Verdict.the-variants.{Pass, Refused}
-use Rattle.refusal.specs.Questions.{number, place, _then_}
-use Rattle.refusal.proofs.Questions.{then-next}
+use Rattle.refusal.specs.Questions.{refusalNumber, refusalPlace, _then_}
+use Rattle.refusal.proofs.Questions.{then-next, room-passed}
 use Rattle.calendar_dates.specs.Dates.{dateOf}
 use Rattle.file_layout.specs.Header.{layoutOf}
 use Rattle.file_group.specs.Group.{tableOf}
@@ -24,9 +23,10 @@ use Rattle.program_refusal.specs.Refused.{refusedLine}
 use Rattle.program_listing.proofs.Listing.{last-line-short, lines-short}
 use Rattle.program_answer.specs.Accepted.{rowsOf, pageLength}
 use Rattle.program_answer.specs.Answer.{linesFor}
+use Rattle.program_text.specs.Printed.{printed}
 use Rattle.program_response.specs.declared.Response.{Response}
-use Rattle.program_response.specs.declared.Response.the-variants.{Written, NoRoom}
-use Rattle.program_response.specs.Printed.{printed, responseTo}
+use Rattle.program_response.specs.declared.Response.the-variants.{Written}
+use Rattle.program_response.specs.Responding.{pageQuestion, answered, responseTo}
 use Rattle.program_laws.specs.Lines.{EnoughRoom}
 
 values-of-table : (q : Request) → length (tableOf (q .file) (q .group)) ≡ 864
@@ -39,7 +39,7 @@ lines-room q Pass h =
     let days = sound q (h refl) .period .short in
     let lines = lines-short (basisOf q) (q .yearly) (daysIn q) (dateOf (q .first)) (q .carry) (values-of-table q) in
     omega (arith, lines, days, last-line-short (daysIn q) (totals q), length-append (dayLines (q .holidays) (rowsOf q)) (lastLine (daysIn q) (totals q)))
-lines-room q (Refused r) h = simp length-append (omega (arith, decimal-most (number (Refused r)), decimal-most (place (Refused r))))
+lines-room q (Refused r) h = simp length-append (omega (arith, decimal-most (refusalNumber r), decimal-most (refusalPlace r)))
 
 pub enough-room : EnoughRoom
 unfolding EnoughRoom printed
@@ -47,14 +47,10 @@ enough-room input =
     let q = requestIn input in
     lines-room q (inputQuestion input then requestCheck q) (then-next (inputQuestion input) (requestCheck q))
 
--- the bytes written lie on the page
-abbrev bytes : Response → ℕ
-bytes (Written n) = n
-bytes NoRoom = 0
-
-pub inside : (input page : List ℕ) {answer : Response} {n : ℕ} → answer ≡ responseTo input page → answer ≡ Written n → pageLength ≤ length page → n ≤ length page
-unfolding EnoughRoom
-inside input page {n = n} e w h =
-    let all : Written n ≡ Written (length (printed input)) = sym w ∙ e ∙ (rw (le-leb pageLength (length page) h)) in
-    let same : n ≡ length (printed input) = ap bytes all in
-    omega (arith, enough-room input)
+-- so a page of that length has room for every response, and one that was written lies on its page
+pub inside : (input page : List ℕ) {answer : Response} {n : ℕ} → answer ≡ responseTo input page → answer ≡ Written n → n ≤ length page
+inside input page e w = from (pageQuestion (printed input) page) refl (sym w ∙ e)
+  where
+    from : {n : ℕ} (v : Verdict) → pageQuestion (printed input) page ≡ v → Written n ≡ answered v (length (printed input)) → n ≤ length page
+    from {n} Pass p h = let same : n ≡ length (printed input) = cc in omega (arith, room-passed _ _ p)
+    from {n} (Refused r) p h = let z : _≡_ {A = ℕ} 0 1 = cc in absurd (omega arith)

@@ -13,7 +13,7 @@ use Rattle.call_expansion.specs.declared.Expansion.the-variants.{Expanded}
 use Rattle.call_expand.specs.Expanding.{totals, expansion}
 use Rattle.program_lines.specs.Lines.{rowOf}
 use Rattle.program_answer.specs.Accepted.{rowsOf, pageLength}
-use Rattle.program_response.specs.Printed.{printed}
+use Rattle.program_text.specs.Printed.{printed}
 
 -- the same request with an output of its own: an input's request has none
 abbrev pub lent : Request → List ℕ → Request
@@ -30,7 +30,7 @@ pub record AsExpanded (q : Request) : Type 0 where
   -- those of a day's line are what a call for that day answers; `RowsJoin` hands the carry from day to day
   pub day : daysIn q ≡ 1 → rowsOf q ≡ rowOf (dateOf (q .first)) (totals q .count) (totals q .total) ∷ []
   -- a refusal is the one that such a call answers
-  pub refused : (output : List ℕ) (r : Refusal) → requestCheck q ≡ Refused r → expansion (lent q output) ≡ Expansion.Refused (Refused r)
+  pub refused : (output : List ℕ) (r : Refusal) → requestCheck q ≡ Refused r → expansion (lent q output) ≡ Expansion.Refused r
 
 unfoldable pub LinesAsExpanded : Type 0
 LinesAsExpanded = (q : Request) → AsExpanded q

@@ -5,7 +5,7 @@ use Prim.Native.Nat.{ℕ, _-_}
 use native.Mathlib.Omega.{arith}
 use lib.ListN.{take}
 use borrow.Author.Needs.{needs}
-use Rattle.program_response.specs.Printed.{pageAfter}
+use Rattle.program_response.specs.Responding.{pageAfter}
 use Rattle.program_laws.proofs.Room.{inside}
 use Rattle.slp.proofs.print.Statement.{statement}
 use Rattle.slp.proofs.print.Tie as tie
@@ -41,7 +41,7 @@ same-length c = search needs
 returns : tie.Need-returns
 returns c =
     let called = c .before .before .before .before in
-    on-page (called .before .before .before .before .before) (called .respond .ensures .1)
+    on-page (called .before .before .before .before .before) (called .respond .ensures .1 .1)
 
 sub-write-all : tie.Need-sub-write-all
 sub-write-all c = search needs
@@ -53,7 +53,7 @@ part-write-all-end : tie.Need-part-write-all-end
 part-write-all-end c =
     let called = c .before .before .before .before .before .before in
     let start = called .before .before .before .before .before in
-    let n = inside (take (start .args .count - 0) (start .args .input .now)) (start .args .page .now) (called .respond .ensures .0) (c .before .before .answer .given .1) (start .pre .1) in
+    let n = inside (take (start .args .count - 0) (start .args .input .now)) (start .args .page .now) (called .respond .ensures .0) (c .before .before .answer .given .1) in
     omega (arith, n)
 
 write-all-requires : tie.Need-write-all-requires
@@ -71,7 +71,7 @@ same-length-2 c = search needs
 returns-2 : tie.Need-returns-2
 returns-2 c =
     let called = c .before .before .before .before .before .before .before .before .before .before .before in
-    on-page (called .before .before .before .before .before) (called .respond .ensures .1)
+    on-page (called .before .before .before .before .before) (called .respond .ensures .1 .1)
 
 same-length-3 : tie.Need-same-length-3
 same-length-3 c = search needs
@@ -79,7 +79,7 @@ same-length-3 c = search needs
 returns-3 : tie.Need-returns-3
 returns-3 c =
     let called = c .before .before .before .before .before .before .before .before .before in
-    on-page (called .before .before .before .before .before) (called .respond .ensures .1)
+    on-page (called .before .before .before .before .before) (called .respond .ensures .1 .1)
 
 pub print-spec : {M : Type 1} → statement M
 print-spec =
