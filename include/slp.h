@@ -3,9 +3,11 @@
  * Link target/staticlib/libexports.a, which `rt staticlib exports` writes, for x86-64, where size_t has 64 bits:
  * cc -I include main.c target/staticlib/libexports.a
  *
- * Every call takes any input, ends, and either does its work (number 0) or is refused by the first question of document 01
- * that is answered "no": `number` is then that question's number, `place` the place it names (0 where it names none), every
- * other field is 0, and lent memory keeps its content.
+ * Every call takes any bytes, values and numbers, in any amount, ends, and either does its work (number 0) or is refused by the
+ * first question of document 01 that is answered "no": `number` is then that question's number, `place` the place it names (0
+ * where it names none), every other field is 0, and lent memory keeps its content. slp_locate alone gives no number: it answers
+ * the part of length 0, and slp_check, which asks the same questions, gives number and place. Of its pointers a call asks what is
+ * said below the table; no call can find that out by itself.
  *
  *   number  what is wrong                                                       place
  *        1  the file has fewer than 6 bytes or does not begin with "SLP"        0
@@ -20,7 +22,10 @@
  *           or the 401st of the list
  *       10  the yearly use is above 1,000,000,000 kWh                           0
  *       11  the carry is above 39,999                                           0
- *       12  the output is too short                                             entries needed (slp_write: bytes)
+ *       12  the output is too short                                             entries needed (slp_write, slp_respond:
+ *                                                                               bytes)
+ *       13  (in the text of slp_respond alone) the input has more than 65,536   0
+ *           bytes, or its head or list is not complete
  *
  * All memory is the caller's: it is lent for the length of the call, nothing is allocated, kept or freed. A pointer points
  * at `.._length` entries (entries, not bytes) and is not NULL, also where the length is 0. What a call writes to overlaps
@@ -48,6 +53,9 @@ extern "C" {
 
 /* Enough entries of output for every period: 1,461 days of at most 100 figures. */
 #define SLP_LONGEST_SERIES 146100
+
+/* Enough bytes of page for what slp_respond writes for every input. */
+#define SLP_PAGE_LENGTH 65536
 
 /* Passed (number 0, place 0) or refused. */
 struct slp_check_report {
@@ -86,6 +94,13 @@ struct slp_expansion_report {
     size_t count;   /* figures written */
     uint64_t total; /* their sum in Wh */
     uint32_t carry; /* left over, in 1/40,000 Wh, at most 39,999: the carry of the next period's call */
+};
+
+/* How much text was written. */
+struct slp_response_report {
+    uint32_t number;
+    size_t place;
+    size_t length; /* bytes written */
 };
 
 /* Whether `file` is a profile file that has `group`. Questions 1 to 6. Writes nothing. */
@@ -130,6 +145,14 @@ struct slp_day_report slp_day(uint32_t date, const uint32_t *holidays, size_t ho
 struct slp_expansion_report slp_expand(const uint8_t *file, size_t file_length, uint8_t group, uint32_t first, uint32_t last,
                                        const uint32_t *holidays, size_t holidays_length, uint32_t yearly, uint32_t carry,
                                        uint32_t *out, size_t out_length);
+
+/*
+ * Writes what the program slp prints for `input` into the first bytes of `page` and keeps those beyond. An input is group (1 byte),
+ * first and last date, yearly use (4 bytes each), list length (2 bytes), the list's dates (4 bytes each), then the profile file,
+ * all big-endian. What the questions 1 to 11 and 13 refuse is a line of that text ("refused", number, place), so the call itself is
+ * refused by question 12 alone (place: the bytes needed; SLP_PAGE_LENGTH is always enough).
+ */
+struct slp_response_report slp_respond(const uint8_t *input, size_t input_length, uint8_t *page, size_t page_length);
 
 #ifdef __cplusplus
 }

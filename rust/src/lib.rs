@@ -44,6 +44,9 @@ pub const GROUP_VALUES: usize = 864;
 /// Enough entries of output for every period: 1,461 days of at most 100 figures.
 pub const LONGEST_SERIES: usize = 1_461 * 100;
 
+/// Enough bytes of page for what the program prints for every input.
+pub const PAGE_LENGTH: usize = 65_536;
+
 /// The length in bytes of a profile file with `count` groups.
 ///
 /// ```
@@ -317,6 +320,22 @@ pub fn expand(request: &Request, out: &mut [u32]) -> Result<Expansion, Refusal> 
         total: report.total,
         carry: report.carry,
     })
+}
+
+/// Writes what the program `slp` prints for an input into the first bytes of `page` and answers how many they are: question 12
+/// alone, since what the other questions refuse is a line of that text. A page of [`PAGE_LENGTH`] bytes is always long enough.
+///
+/// ```
+/// let mut page = [0; slp::PAGE_LENGTH];
+/// let length = slp::respond(b"", &mut page)?;
+/// assert_eq!(page[..length], *b"refused 13 0\n");
+/// assert_eq!(slp::respond(b"", &mut page[..12]), Err(slp::Refusal { number: 12, place: 13 }));
+/// # Ok::<(), slp::Refusal>(())
+/// ```
+pub fn respond(input: &[u8], page: &mut [u8]) -> Result<usize, Refusal> {
+    let report = report::respond(input, page);
+    verdict(report.number, report.place)?;
+    Ok(report.length)
 }
 
 #[cfg(test)]

@@ -70,6 +70,18 @@ pub struct ExpansionReport {
     pub carry: u32,
 }
 
+/// The answer of responding.
+#[repr(C)]
+#[derive(Debug, Clone, Copy, PartialEq, Eq)]
+pub struct ResponseReport {
+    /// The number of the question that refused the call, else 0.
+    pub number: u32,
+    /// The place that the question names, else 0.
+    pub place: usize,
+    /// How many bytes were written.
+    pub length: usize,
+}
+
 extern "C" {
     fn slp_check(file: *const u8, file_length: usize, group: u8) -> CheckReport;
     fn slp_locate(file: *const u8, file_length: usize, group: u8) -> LocatedPart;
@@ -103,6 +115,12 @@ extern "C" {
         out: *mut u32,
         out_length: usize,
     ) -> ExpansionReport;
+    fn slp_respond(
+        input: *const u8,
+        input_length: usize,
+        page: *mut u8,
+        page_length: usize,
+    ) -> ResponseReport;
 }
 
 // Each pointer and length below is that of one slice, borrowed for the length of the call, as `slp.h` asks; a `&mut` overlaps
@@ -172,4 +190,9 @@ pub fn expand(request: &crate::Request, out: &mut [u32]) -> ExpansionReport {
             out.len(),
         )
     }
+}
+
+/// `slp_respond`.
+pub fn respond(input: &[u8], page: &mut [u8]) -> ResponseReport {
+    unsafe { slp_respond(input.as_ptr(), input.len(), page.as_mut_ptr(), page.len()) }
 }

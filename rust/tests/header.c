@@ -3,6 +3,7 @@
 
 #include <inttypes.h>
 #include <stdio.h>
+#include <string.h>
 
 static int faults = 0;
 
@@ -81,10 +82,37 @@ static void listing(void)
     expect("entries that are always enough", SLP_LONGEST_SERIES, 1461 * 100);
 }
 
+static void put_number(uint8_t *at, uint32_t number)
+{
+    for (int i = 0; i < 4; i++)
+        at[i] = (uint8_t)(number >> (24 - 8 * i));
+}
+
+static void text(void)
+{
+    static const char lines[] = "2000-03-25 T2 96 2402\n2000-03-26 T3 92 2302\ntotal 2 188 4704 28000\n";
+    static uint8_t input[15 + SLP_FILE_LENGTH(1)];
+    static uint8_t page[SLP_PAGE_LENGTH];
+    input[0] = 1;
+    put_number(input + 1, 20000325);
+    put_number(input + 5, 20000326);
+    put_number(input + 9, 1000);
+    memcpy(input + 15, file, sizeof file);
+    struct slp_response_report made = slp_respond(input, sizeof input, page, sizeof page);
+    expect("respond", made.number, 0);
+    expect("place", made.place, 0);
+    expect("length", made.length, sizeof lines - 1);
+    expect("lines", (uint64_t)memcmp(page, lines, sizeof lines - 1), 0);
+    struct slp_response_report tight = slp_respond(input, sizeof input, page, sizeof lines - 2);
+    expect("respond on a page that is a byte short", tight.number, 12);
+    expect("bytes needed", tight.place, sizeof lines - 1);
+}
+
 int main(void)
 {
     file_calls();
     day_call();
     listing();
+    text();
     return faults == 0 ? 0 : 1;
 }

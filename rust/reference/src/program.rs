@@ -14,6 +14,15 @@ pub fn text(input: &[u8]) -> String {
     listing(input).unwrap_or_else(|no| format!("refused {} {}\n", no.number, no.place))
 }
 
+/// The text for an input in the first bytes of a lent page, which keeps those beyond, and its length: question 12, with the bytes
+/// needed as place.
+pub fn respond(input: &[u8], page: &mut [u8]) -> Result<usize, Refusal> {
+    let text = text(input);
+    ask(text.len() <= page.len(), 12, text.len())?;
+    page[..text.len()].copy_from_slice(text.as_bytes());
+    Ok(text.len())
+}
+
 /// The lines of the days and the last line: question 13, then 1 to 11.
 pub fn listing(input: &[u8]) -> Result<String, Refusal> {
     const INCOMPLETE: Refusal = Refusal {

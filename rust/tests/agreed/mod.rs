@@ -5,7 +5,9 @@ use std::fmt::Debug;
 
 use reference::file::{HEAD, PROFILE, VALUES};
 use reference::{DayAnswer, Expansion, Refusal};
-use slp::report::{CheckReport, ComparisonReport, DayReport, ExpansionReport, LocatedPart};
+use slp::report::{
+    CheckReport, ComparisonReport, DayReport, ExpansionReport, LocatedPart, ResponseReport,
+};
 use slp::{DayType, Request, Season};
 
 /// A refusal, as a test expects it.
@@ -228,5 +230,27 @@ pub fn expand(request: &Request, out: &mut [u32], what: &str) -> Result<Expansio
     assert_eq!(found, result(answer.map(package_expansion)), "{what}");
     let filled = answer.map_or(0, |made| made.count);
     expect_kept(&before, out, &answer, filled, what);
+    answer
+}
+
+fn response_report(answer: &Result<usize, Refusal>) -> ResponseReport {
+    let (number, place) = number_and_place(answer);
+    ResponseReport {
+        number,
+        place,
+        length: *answer.as_ref().unwrap_or(&0),
+    }
+}
+
+pub fn respond(input: &[u8], page: &mut [u8], what: &str) -> Result<usize, Refusal> {
+    let before = page.to_vec();
+    let answer = reference::program::respond(input, page);
+    let report = lend(&before, page, what, |page| {
+        slp::report::respond(input, page)
+    });
+    assert_eq!(report, response_report(&answer), "{what}");
+    let found = lend(&before, page, what, |page| slp::respond(input, page));
+    assert_eq!(found, result(answer), "{what}");
+    expect_kept(&before, page, &answer, answer.unwrap_or(0), what);
     answer
 }
