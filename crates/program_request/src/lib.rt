@@ -30,6 +30,6 @@ pub fn put_lines(
     let from = calendar_dates::date_of(first);
     let days = calendar_period::days_of(from, calendar_dates::date_of(last));
     let day = calendar_period::calendar_day(from);
-    let lines = program_listing::list_days(&values, group, day, days, holidays, yearly, page);
+    let lines = program_listing::list_days(&values, group, day, days, holidays, yearly, 0, page);
     program_lines::put_last_line(days, lines.totals, page, lines.at)
 }

@@ -1,5 +1,5 @@
 -- `program_request::put_lines` meets its contract: the lines of the days and the last one. Assumes nothing.
-use mathlib.Core.Path.{_≡_, refl, sym, _∙_, ap}
+use mathlib.Core.Path.{_≡_, sym, _∙_, ap}
 use mathlib.Core.List.{[]}
 use Prim.Native.Nat.{ℕ}
 use native.Mathlib.Omega.{arith}
@@ -124,7 +124,7 @@ returns-2 c =
     let list = line .before .before .before .before in
     let day = list .before .before .before in
     let at = of-values (of-day day) in
-    accepted (wanted day) (at .pre .0) refl (table (of-day day)) (day-is day) (days-are day) (list .list-days .ensures) (line .put-last-line .ensures) (at .pre .1)
+    accepted (wanted day) (at .pre .0) (table (of-day day)) (day-is day) (days-are day) (list .list-days .ensures) (line .put-last-line .ensures) (at .pre .1)
 
 pub put-lines-spec : {M : Type 1} → statement M
 put-lines-spec =
