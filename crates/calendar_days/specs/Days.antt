@@ -11,6 +11,7 @@ use Rattle.calendar_days.specs.declared.Season.{Season}
 use Rattle.calendar_days.specs.declared.Season.the-variants.{Winter, Summer, Transition}
 use Rattle.calendar_days.specs.declared.DayType.{DayType}
 use Rattle.calendar_days.specs.declared.DayType.the-variants.{Weekday, Saturday, Sunday}
+use Rattle.calendar_days.specs.declared.DayKind.{DayKind}
 use Rattle.calendar_days.specs.declared.Clock.{Clock}
 use Rattle.calendar_days.specs.declared.Clock.the-variants.{Unchanged, Forward, Back}
 
@@ -35,6 +36,10 @@ dayTypeWhen d holiday =
 
 abbrev pub dayType : Date → List ℕ → DayType
 dayType d holidays = dayTypeWhen d (listed (numberOf d) holidays)
+
+-- both: which table of values a day has
+abbrev pub dayKind : Date → List ℕ → DayKind
+dayKind d holidays = record { season = season d; «day_type» = dayType d holidays }
 
 -- the last Sunday of its month: seven days later the month is over
 unfoldable pub lastSunday : Date → Bool

@@ -17,6 +17,12 @@ pub enum DayType {
     Sunday,
 }
 
+// A day's season and day type, which tell its table of values.
+pub struct DayKind {
+    pub season: Season,
+    pub day_type: DayType,
+}
+
 // What the clocks do in a day's third hour.
 pub enum Clock {
     Unchanged,

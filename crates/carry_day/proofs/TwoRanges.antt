@@ -34,7 +34,7 @@ whole n day h = let all : length day ≤ n = omega arith in rw (slice-empty n da
 parts : (a b n : ℕ) (day : List ℕ) → length day ≡ n → take a day ++ drop b day ≡ slice 0 a day ++ slice b n day
 parts a b n day h = let all : length day ≤ n = omega arith in rw (take-all n day)
 
-ranges : (clock : Clock) (day : List ℕ) → length day ≡ 96 → positions clock day ≡ slice 0 (firstEnd clock) day ++ slice (secondStart clock) 96 day
+pub ranges : (clock : Clock) (day : List ℕ) → length day ≡ 96 → positions clock day ≡ slice 0 (firstEnd clock) day ++ slice (secondStart clock) 96 day
 unfolding positions
 ranges Unchanged day h = whole 96 day h
 ranges Forward day h = parts 8 12 96 day h

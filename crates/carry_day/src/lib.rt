@@ -10,7 +10,7 @@ ghost use Rattle.carry_quotients.specs.Inside.{SmallPowers, InDay, RangeCarried
 ghost use Rattle.carry_day.specs.Inside.{DayCarried, firstEnd, secondStart};
 
 // The day's positions after the clock change are two ranges: those below `first_end`, then those from `second_start` on.
-fn first_end(clock: Clock) -> usize
+pub fn first_end(clock: Clock) -> usize
     ensures { λ r. ⌜ r ≡ firstEnd clock ⌝ }
 {
     match clock {
@@ -20,7 +20,7 @@ fn first_end(clock: Clock) -> usize
     }
 }
 
-fn second_start(clock: Clock) -> usize
+pub fn second_start(clock: Clock) -> usize
     ensures { λ r. ⌜ r ≡ secondStart clock ⌝ }
 {
     match clock {

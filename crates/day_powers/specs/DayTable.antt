@@ -6,7 +6,8 @@ use lib.ListN.{take, drop}
 use Rattle.calendar_dates.specs.declared.Date.{Date}
 use Rattle.calendar_days.specs.declared.Season.{Season}
 use Rattle.calendar_days.specs.declared.DayType.{DayType}
-use Rattle.calendar_days.specs.Days.{season, dayType}
+use Rattle.calendar_days.specs.declared.DayKind.{DayKind}
+use Rattle.calendar_days.specs.Days.{dayKind}
 
 -- "winter, summer, transition"
 abbrev pub seasonPlace : Season → ℕ
@@ -24,10 +25,13 @@ dayTypePlace DayType.Sunday = 2
 abbrev pub tableIndex : Season → DayType → ℕ
 tableIndex s d = seasonPlace s * 3 + dayTypePlace d
 
+abbrev pub tableOfKind : DayKind → ℕ
+tableOfKind kind = tableIndex (kind .season) (kind .«day_type»)
+
 -- the 96 values of a day table
 abbrev pub tableAt : ℕ → List ℕ → List ℕ
 tableAt index values = take 96 (drop (index * 96) values)
 
 -- the 96 values of a day, out of its group's values
 unfoldable pub dayValues : List ℕ → List ℕ → Date → List ℕ
-dayValues values holidays d = tableAt (tableIndex (season d) (dayType d holidays)) values
+dayValues values holidays d = tableAt (tableOfKind (dayKind d holidays)) values

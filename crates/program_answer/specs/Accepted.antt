@@ -4,8 +4,8 @@ use Prim.Native.Nat.{ℕ}
 use Rattle.calendar_dates.specs.Dates.{dateOf}
 use Rattle.call_request.specs.Request.{Request, daysIn, basisOf}
 use Rattle.call_expand.specs.Expanding.{totals}
-use Rattle.program_lines.specs.Lines.{Row, dayLines, lastLine}
-use Rattle.program_listing.specs.Listing.{rows}
+use Rattle.program_lines.specs.Lines.{Row, lastLine}
+use Rattle.program_listing.specs.Listing.{rows, dayLines}
 
 -- "Then it expands day by day": a request's rows; "from carry 0", which an input's request has
 abbrev pub rowsOf : Request → List Row

@@ -28,6 +28,6 @@ pub fn put_answer(
     let values = file_read::values_at(file, opening.at);
     let day = opening.first;
     let days = opening.days;
-    let lines = program_listing::list_days(&values, group, day, days, holidays, yearly, page);
+    let lines = program_listing::list_days(&values, group, day, days, holidays, yearly, 0, page);
     program_lines::put_last_line(days, lines.totals, page, lines.at)
 }

@@ -18,8 +18,9 @@ use Rattle.call_request.proofs.Request.{sound}
 use Rattle.call_expand.specs.Expanding.{totals}
 use Rattle.text.proofs.Text.{decimal-most}
 use Rattle.program_input.specs.Input.{inputQuestion, requestIn}
-use Rattle.program_lines.specs.Lines.{dayLines, lastLine}
+use Rattle.program_lines.specs.Lines.{lastLine}
 use Rattle.program_refusal.specs.Refused.{refusedLine}
+use Rattle.program_listing.specs.Listing.{dayLines}
 use Rattle.program_listing.proofs.Listing.{last-line-short, lines-short}
 use Rattle.program_answer.specs.Accepted.{rowsOf, pageLength}
 use Rattle.program_answer.specs.Answer.{linesFor}

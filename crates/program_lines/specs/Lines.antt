@@ -2,6 +2,7 @@
 use mathlib.Core.List.{List, [], _∷_, _++_}
 use Prim.Native.Nat.{ℕ}
 use Rattle.calendar_dates.specs.declared.Date.{Date}
+use Rattle.calendar_days.specs.declared.DayKind.{DayKind}
 use Rattle.carry.specs.declared.Totals.{Totals}
 use Rattle.text.specs.Text.{space, lineFeed, dateText}
 use Rattle.text_fields.specs.Fields.{dayTypeText, field}
@@ -16,14 +17,10 @@ abbrev pub rowOf : Date → ℕ → ℕ → Row
 rowOf d count wattHours = record { date = d; count = count; wattHours = wattHours }
 
 -- "prints for each day: date as yyyy-mm-dd, season letter .. with day digit .., count, Wh"
-unfoldable pub dayLine : List ℕ → Row → List ℕ
-dayLine holidays row =
+unfoldable pub dayLine : DayKind → Row → List ℕ
+dayLine kind row =
     dateText (row .date)
-    ++ (space ∷ (dayTypeText holidays (row .date) ++ (field (row .count) ++ (field (row .wattHours) ++ (lineFeed ∷ [])))))
-
-unfoldable pub dayLines : List ℕ → List Row → List ℕ
-dayLines holidays [] = []
-dayLines holidays (row ∷ rest) = dayLine holidays row ++ dayLines holidays rest
+    ++ (space ∷ (dayTypeText kind ++ (field (row .count) ++ (field (row .wattHours) ++ (lineFeed ∷ [])))))
 
 -- "total" in ASCII
 abbrev pub totalWord : List ℕ

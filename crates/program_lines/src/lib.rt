@@ -1,29 +1,32 @@
 // The text of the program's lines (document 01, "The program"), put on a lent page.
-use calendar_period::CalendarDay;
+use calendar_dates::Date;
+use calendar_days::DayKind;
 use carry::Totals;
+ghost use mathlib.Core.Path.{_≡_};
+ghost use mathlib.Core.Bool.{true};
 ghost use Prim.Native.Nat.{_+_, _≤_, _<_};
 ghost use lib.ListN.{length};
-ghost use Rattle.calendar_period.specs.Inside.{RealDay};
+ghost use Rattle.calendar_dates.specs.Dates.{isDate};
 ghost use Rattle.text.specs.Inside.{Put};
 ghost use Rattle.program_lines.specs.Lines.{rowOf, dayLine, lastLine};
 
 // Puts a day's line, of at most 39 bytes: 10 date, 3 day type, 4 count, 21 Wh (a number has at most 20 digits), 1 LF.
 pub fn put_day_line(
-    day: CalendarDay,
-    holidays: &[u32],
+    date: Date,
+    kind: DayKind,
     count: usize,
     watt_hours: u64,
     page: &mut [u8],
     at: usize,
 ) -> usize
-    requires { ⌜ RealDay day ⌝ }
+    requires { ⌜ isDate date ≡ true ⌝ }
     requires { ⌜ count < 1_000 ⌝ }
     requires { ⌜ at + 39 ≤ length (now page) ⌝ }
-    ensures { λ r. ⌜ Put (dayLine (now (holidays .entry)) (rowOf (day .date) count «watt_hours»)) (now (page .entry)) at r (now (page .exit)) ⌝ }
+    ensures { λ r. ⌜ Put (dayLine kind (rowOf date count «watt_hours»)) (now (page .entry)) at r (now (page .exit)) ⌝ }
 {
-    let at = text::put_date(day.date, page, at);
+    let at = text::put_date(date, page, at);
     let at = text::put_byte(text::SPACE, page, at);
-    let at = text_fields::put_day_type(day, holidays, page, at);
+    let at = text_fields::put_day_type(kind, page, at);
     let at = text_fields::put_field(count as u64, page, at);
     let at = text_fields::put_field(watt_hours, page, at);
     text::put_byte(text::LINE_FEED, page, at)

@@ -6,9 +6,9 @@ use mathlib.Core.List.{List, [], _++_, append-nil, append-assoc}
 use Prim.Native.Nat.{ℕ, zero, suc, _+_, _-_, _*_, _≤_, _<_}
 use native.Mathlib.Omega.{arith}
 use lib.ListN.{length}
-use Rattle.lists.specs.Lists.{sum}
 use Rattle.calendar_dates.specs.declared.Date.{Date}
 use Rattle.calendar_dates.specs.Dates.{nextDay}
+use Rattle.calendar_days.specs.Days.{dayKind}
 use Rattle.calendar_period.specs.declared.CalendarDay.{CalendarDay}
 use Rattle.calendar_period.specs.Inside.{calendarDay, RealDays}
 use Rattle.calendar_period.proofs.Period.{values-small}
@@ -20,9 +20,9 @@ use Rattle.series.proofs.DayByDay.{start, powersFrom, length-powers, whole-fits
 use Rattle.series.proofs.Series.{length-quarters}
 use Rattle.text.specs.Inside.{Put}
 use Rattle.text.proofs.Puts.{put-length, put-put}
-use Rattle.program_lines.specs.Lines.{rowOf, dayLine, dayLines}
+use Rattle.program_lines.specs.Lines.{dayLine}
 use Rattle.program_listing.specs.declared.Lines.{Lines}
-use Rattle.program_listing.specs.Listing.{dayFigures, rows}
+use Rattle.program_listing.specs.Listing.{dayRow, rows, dayLines}
 use Rattle.program_listing.specs.Inside.{DayRoom, DayListed, Listed}
 
 -- the lines of some days, begun with a carry
@@ -37,7 +37,7 @@ module _ (b : Basis) (yearly : ℕ) where
 
   lines-next : (n : ℕ) (d : Date) (carry : ℕ) → 0 < n →
       linesFrom b yearly n d carry
-      ≡ dayLine (b .holidays) (rowOf d (length (dayFigures b yearly d carry)) (sum (dayFigures b yearly d carry)))
+      ≡ dayLine (dayKind d (b .holidays)) (dayRow b yearly d carry)
       ++ linesFrom b yearly (n - 1) (nextDay d) (lastCarry yearly (dayPowers b d) carry)
   unfolding rows dayLines
   lines-next zero d carry h = absurd (omega arith)
@@ -45,21 +45,21 @@ module _ (b : Basis) (yearly : ℕ) where
       let one : suc n - 1 ≡ n = omega arith in rw one
 
 -- the lines of the days left are still to come
-pub record LinesLeft (b : Basis) (yearly days : ℕ) (first : Date) (entry : List ℕ) (day : CalendarDay) (left : ℕ) (soFar : Lines) (page : List ℕ) : Type 0 where
+pub record LinesLeft (b : Basis) (yearly carry days : ℕ) (first : Date) (entry : List ℕ) (day : CalendarDay) (left : ℕ) (soFar : Lines) (page : List ℕ) : Type 0 where
   -- the figures as series' law has them stored; no page holds them
   pub out : List ℕ
-  pub totals : DaysLeft b yearly (powersFrom b days first) 0 (powersFrom b days first) day left (soFar .totals) out
+  pub totals : DaysLeft b yearly (powersFrom b days first) carry (powersFrom b days first) day left (soFar .totals) out
   pub text : List ℕ
   pub put : Put text entry 0 (soFar .at) page
-  pub linesLeft : text ++ linesFrom b yearly left (day .date) (soFar .totals .carry) ≡ linesFrom b yearly days first 0
+  pub linesLeft : text ++ linesFrom b yearly left (day .date) (soFar .totals .carry) ≡ linesFrom b yearly days first carry
   pub short : soFar .at + 39 * left ≤ 39 * days
   pub room : 39 * days ≤ length entry
   pub few : length (powersFrom b days first) ≤ 146_100
 
-pub begin : (b : Basis) (sound : GroupValues (b .values)) {yearly days : ℕ} {day : CalendarDay} {entry : List ℕ} →
-    RealDays day days → InRange yearly 0 → 57_000 ≤ length entry →
-    LinesLeft b yearly days (day .date) entry day days (record { at = 0; totals = record { count = 0; total = 0; carry = 0 } }) entry
-begin b sound {yearly} {days} {day} real range room =
+pub begin : (b : Basis) (sound : GroupValues (b .values)) {yearly carry days : ℕ} {day : CalendarDay} {entry : List ℕ} →
+    RealDays day days → InRange yearly carry → 57_000 ≤ length entry →
+    LinesLeft b yearly carry days (day .date) entry day days (record { at = 0; totals = record { count = 0; total = 0; carry = carry } }) entry
+begin b sound {yearly} {carry} {days} {day} real range room =
     let few = real .few in
     record {
       out = powersFrom b days (day .date);
@@ -72,16 +72,16 @@ begin b sound {yearly} {days} {day} real range room =
       few = omega (arith, length-powers b days (day .date), length-quarters b days (day .date) (sound .whole), values-small days (day .date));
     }
 
-module _ {b : Basis} {yearly days : ℕ} {first : Date} {entry : List ℕ} {day : CalendarDay} {left : ℕ} {soFar : Lines} {page : List ℕ}
-    (l : LinesLeft b yearly days first entry day left soFar page) where
+module _ {b : Basis} {yearly carry days : ℕ} {first : Date} {entry : List ℕ} {day : CalendarDay} {left : ℕ} {soFar : Lines} {page : List ℕ}
+    (l : LinesLeft b yearly carry days first entry day left soFar page) where
   pub page-length : length page ≡ length entry
   page-length =
       let at = l .put .behind in
       put-length (l .put) (omega arith)
 
-  pub end : left ≤ 0 → Listed b yearly days first entry soFar page
+  pub end : left ≤ 0 → Listed b yearly carry days first entry soFar page
   end none =
-      let all : l .text ≡ linesFrom b yearly days first 0 =
+      let all : l .text ≡ linesFrom b yearly days first carry =
       sym (append-nil (l .text)) ∙ (rw (lines-none b yearly left (day .date) (soFar .totals .carry) none) at (l .linesLeft)) in
       record {
         lines = rw all at (l .put);
@@ -100,7 +100,7 @@ module _ {b : Basis} {yearly days : ℕ} {first : Date} {entry : List ℕ} {day 
         }
 
     pub turn : {r : Lines} {after : List ℕ} {next : CalendarDay} → DayListed b yearly (day .date) soFar page r after →
-        next ≡ calendarDay (nextDay (day .date)) → LinesLeft b yearly days first entry next (left - 1) r after
+        next ≡ calendarDay (nextDay (day .date)) → LinesLeft b yearly carry days first entry next (left - 1) r after
     turn {r} did e =
         let at = l .put .behind in
         let room = l .room in

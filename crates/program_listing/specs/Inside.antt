@@ -6,14 +6,15 @@ use Prim.Native.Nat.{ℕ, _+_, _*_, _^_, _≤_, _<_}
 use lib.ListN.{length}
 use Rattle.lists.specs.Lists.{sum}
 use Rattle.calendar_dates.specs.declared.Date.{Date}
+use Rattle.calendar_days.specs.Days.{dayKind}
 use Rattle.carry.specs.Carry.{figures, lastCarry}
 use Rattle.carry.specs.Energy.{powers}
 use Rattle.day_powers.specs.DayQuarters.{Basis, dayQuarters}
 use Rattle.series.specs.Series.{quartersOfDays}
 use Rattle.text.specs.Inside.{Put}
-use Rattle.program_lines.specs.Lines.{rowOf, dayLine, dayLines}
+use Rattle.program_lines.specs.Lines.{dayLine}
 use Rattle.program_listing.specs.declared.Lines.{Lines}
-use Rattle.program_listing.specs.Listing.{dayFigures, rows}
+use Rattle.program_listing.specs.Listing.{dayFigures, dayRow, rows, dayLines}
 
 -- one day's line has room on a page, and its figures have room in the totals
 pub record DayRoom (b : Basis) (yearly : ℕ) (d : Date) (before : Lines) (page : List ℕ) : Type 0 where
@@ -23,20 +24,18 @@ pub record DayRoom (b : Basis) (yearly : ℕ) (d : Date) (before : Lines) (page 
 
 -- one day's line was put behind those before, and its figures were added to their totals
 pub record DayListed (b : Basis) (yearly : ℕ) (d : Date) (before : Lines) (page : List ℕ) (r : Lines) (after : List ℕ) : Type 0 where
-  pub line : Put
-      (dayLine (b .holidays) (rowOf d (length (dayFigures b yearly d (before .totals .carry))) (sum (dayFigures b yearly d (before .totals .carry)))))
-      page (before .at) (r .at) after
+  pub line : Put (dayLine (dayKind d (b .holidays)) (dayRow b yearly d (before .totals .carry))) page (before .at) (r .at) after
   pub short : r .at ≤ before .at + 39
   pub count : r .totals .count ≡ before .totals .count + length (powers (dayQuarters b d))
   pub total : r .totals .total ≡ before .totals .total + sum (dayFigures b yearly d (before .totals .carry))
   pub carry : r .totals .carry ≡ lastCarry yearly (powers (dayQuarters b d)) (before .totals .carry)
 
--- the lines of some days were put on a page, and these are the days' totals
-pub record Listed (b : Basis) (yearly : ℕ) (days : ℕ) (d : Date) (before : List ℕ) (r : Lines) (after : List ℕ) : Type 0 where
-  pub lines : Put (dayLines (b .holidays) (rows b yearly days d 0)) before 0 (r .at) after
+-- the lines of some days, begun with a carry, were put on a page, and these are the days' totals
+pub record Listed (b : Basis) (yearly carry days : ℕ) (d : Date) (before : List ℕ) (r : Lines) (after : List ℕ) : Type 0 where
+  pub lines : Put (dayLines (b .holidays) (rows b yearly days d carry)) before 0 (r .at) after
   pub totals : r .totals ≡ record {
     count = length (quartersOfDays (dayQuarters b) days d);
-    total = sum (figures yearly (powers (quartersOfDays (dayQuarters b) days d)) 0);
-    carry = lastCarry yearly (powers (quartersOfDays (dayQuarters b) days d)) 0;
+    total = sum (figures yearly (powers (quartersOfDays (dayQuarters b) days d)) carry);
+    carry = lastCarry yearly (powers (quartersOfDays (dayQuarters b) days d)) carry;
   }
   pub short : r .at ≤ 39 * days

@@ -8,7 +8,7 @@ ghost use Rattle.refusal.specs.declared.Verdict.the-variants.{Pass};
 ghost use Rattle.calendar_holidays.specs.Holidays.{holidaysQuestion};
 ghost use Rattle.calendar_period.specs.Inside.{RealDay, RealDays};
 ghost use Rattle.day_powers.specs.DayQuarters.{basis};
-ghost use Rattle.series.specs.Inside.{GroupValues, InRange};
+ghost use Rattle.series.specs.Inside.{GroupValues, InList, InRange};
 ghost use Rattle.program_listing.specs.Inside.{DayRoom, DayListed, Listed};
 
 // The place behind the lines so far, and what their days come to.
@@ -17,50 +17,52 @@ pub struct Lines {
     pub totals: Totals,
 }
 
-// Expands one day and puts its line behind those before.
+// Works one day out and puts its line behind those before. `place` is the day's in the list of holidays.
 fn list_day(
     values: &[u16],
     group: u8,
     day: CalendarDay,
     holidays: &[u32],
+    place: usize,
     yearly: u32,
     before: Lines,
     page: &mut [u8],
 ) -> Lines
     requires { ⌜ GroupValues (now values) ⌝ }
     requires { ⌜ RealDay day ⌝ }
-    requires { ⌜ holidaysQuestion (now holidays) ≡ Pass ⌝ }
+    requires { ⌜ InList (now holidays) place (day .date) ⌝ }
     requires { ⌜ InRange yearly (before .totals .carry) ⌝ }
     requires { ⌜ DayRoom (basis (now values) group (now holidays)) yearly (day .date) before (now page) ⌝ }
     ensures { λ r. ⌜
         DayListed (basis (now (values .entry)) group (now (holidays .entry))) yearly (day .date)
         before (now (page .entry)) r (now (page .exit)) ⌝ }
 {
-    let mut figures = [0u32; 100];
-    let t = series::expand_days(
-        values,
-        group,
-        day,
-        1,
-        holidays,
-        yearly,
-        before.totals.carry,
-        &mut figures,
+    let clock = calendar_days::clock_of(day.date, day.weekday);
+    let values_today = calendar_days::values_under(clock) as usize;
+    let count = before.totals.count + values_today;
+    let kind = series::kind_on(day, holidays, place);
+    let powers = series::powers_on(values, group, day, kind);
+    let today = carry_total::total_day(powers, clock, yearly, before.totals.carry);
+    let total = before.totals.total + today.total;
+    let at = program_lines::put_day_line(
+        day.date,
+        kind,
+        values_today,
+        today.total,
+        page,
+        before.at,
     );
-    let at = program_lines::put_day_line(day, holidays, t.count, t.total, page, before.at);
-    let count = before.totals.count + t.count;
-    let total = before.totals.total + t.total;
     Lines {
         at,
         totals: Totals {
             count,
             total,
-            carry: t.carry,
+            carry: today.carry,
         },
     }
 }
 
-// Expands a period day by day from carry 0 and puts a line for each day at the start of the page.
+// Works a period out day by day and puts a line for each day at the start of the page.
 pub fn list_days(
     values: &[u16],
     group: u8,
@@ -68,14 +70,17 @@ pub fn list_days(
     days: u32,
     holidays: &[u32],
     yearly: u32,
+    carry: u32,
     page: &mut [u8],
 ) -> Lines
     requires { ⌜ GroupValues (now values) ⌝ }
     requires { ⌜ RealDays first days ⌝ }
     requires { ⌜ holidaysQuestion (now holidays) ≡ Pass ⌝ }
-    requires { ⌜ InRange yearly 0 ⌝ }
+    requires { ⌜ InRange yearly carry ⌝ }
     requires { ⌜ 57_000 ≤ length (now page) ⌝ }
-    ensures { λ r. ⌜ Listed (basis (now (values .entry)) group (now (holidays .entry))) yearly days (first .date) (now (page .entry)) r (now (page .exit)) ⌝ }
+    ensures { λ r. ⌜
+        Listed (basis (now (values .entry)) group (now (holidays .entry))) yearly carry days (first .date)
+        (now (page .entry)) r (now (page .exit)) ⌝ }
 {
     let mut day = first;
     let mut left = days;
@@ -84,11 +89,13 @@ pub fn list_days(
         totals: Totals {
             count: 0,
             total: 0,
-            carry: 0,
+            carry,
         },
     };
+    let mut place: usize = 0;
     while 0 < left {
-        so_far = list_day(values, group, day, holidays, yearly, so_far, page);
+        place = calendar_holidays::next_entry(holidays, place, calendar_dates::number_of(day.date));
+        so_far = list_day(values, group, day, holidays, place, yearly, so_far, page);
         day = calendar_period::day_after(day);
         left -= 1;
     }

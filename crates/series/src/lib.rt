@@ -1,4 +1,5 @@
 // Series and carry (document 01): a period's figures, day by day, with the carry handed from day to day.
+use calendar_days::DayKind;
 use calendar_period::CalendarDay;
 use carry::Totals;
 ghost use mathlib.Core.Path.{_≡_};
@@ -7,32 +8,37 @@ ghost use lib.ListN.{length};
 ghost use Rattle.refusal.specs.declared.Verdict.the-variants.{Pass};
 ghost use Rattle.calendar_dates.specs.Dates.{dayOfYear};
 ghost use Rattle.calendar_holidays.specs.Holidays.{holidaysQuestion};
+ghost use Rattle.calendar_days.specs.Days.{dayKind};
 ghost use Rattle.calendar_period.specs.Inside.{RealDay, RealDays};
 ghost use Rattle.dynamisation.specs.Dynamisation.{F};
 ghost use Rattle.carry.specs.Energy.{powers};
-ghost use Rattle.day_powers.specs.DayTable.{dayValues};
+ghost use Rattle.day_powers.specs.DayTable.{tableAt, tableOfKind};
 ghost use Rattle.day_powers.specs.Inside.{powersBy};
 ghost use Rattle.day_powers.specs.DayQuarters.{basis, dayQuarters};
 ghost use Rattle.series.specs.Inside.{GroupValues, InList, InRange, Room, Added, Filled};
 ghost use Rattle.series.specs.Series.{quartersOfDays};
 
-// The powers of a day before the clock change. `place` is the day's in the list of holidays.
-fn powers_on(
-    values: &[u16],
-    group: u8,
-    day: CalendarDay,
-    holidays: &[u32],
-    place: usize,
-) -> [u32; 96]
-    requires { ⌜ GroupValues (now values) ⌝ }
+// A day's season and day type. `place` is the day's in the list of holidays.
+pub fn kind_on(day: CalendarDay, holidays: &[u32], place: usize) -> DayKind
     requires { ⌜ RealDay day ⌝ }
     requires { ⌜ InList (now holidays) place (day .date) ⌝ }
-    ensures { λ r. ⌜ r ≡ powersBy (F group (dayOfYear (day .date))) (dayValues (now (values .entry)) (now (holidays .entry)) (day .date)) ⌝ }
+    ensures { λ r. ⌜ r ≡ dayKind (day .date) (now (holidays .entry)) ⌝ }
 {
     let season = calendar_days::season_of(day.date);
     let number = calendar_dates::number_of(day.date);
     let holiday = calendar_holidays::is_listed_at(holidays, place, number);
     let day_type = calendar_days::day_type_when(day.date, day.weekday, holiday);
+    DayKind { season, day_type }
+}
+
+// The powers of a day before the clock change.
+pub fn powers_on(values: &[u16], group: u8, day: CalendarDay, kind: DayKind) -> [u32; 96]
+    requires { ⌜ GroupValues (now values) ⌝ }
+    requires { ⌜ RealDay day ⌝ }
+    ensures { λ r. ⌜ r ≡ powersBy (F group (dayOfYear (day .date))) (tableAt (tableOfKind kind) (now (values .entry))) ⌝ }
+{
+    let season = kind.season;
+    let day_type = kind.day_type;
     let table = day_powers::table_index(season, day_type);
     day_powers::powers_of(values, table, dynamisation::factor(group, day.t))
 }
@@ -59,15 +65,16 @@ fn expand_day(
 {
     let clock = calendar_days::clock_of(day.date, day.weekday);
     let at = before.count;
+    let count = at + calendar_days::values_under(clock) as usize;
+    let kind = kind_on(day, holidays, place);
     let carried = carry_day::carry_day(
-        powers_on(values, group, day, holidays, place),
+        powers_on(values, group, day, kind),
         clock,
         yearly,
         before.carry,
         out,
         at,
     );
-    let count = at + calendar_days::values_under(clock) as usize;
     let total = before.total + carried.total;
     Totals {
         count,

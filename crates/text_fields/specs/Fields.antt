@@ -1,9 +1,8 @@
 -- Document 01, "The program": the fields of a line.
 use mathlib.Core.List.{List, [], _∷_}
 use Prim.Native.Nat.{ℕ}
-use Rattle.calendar_dates.specs.declared.Date.{Date}
 use Rattle.calendar_days.specs.declared.Season.{Season}
-use Rattle.calendar_days.specs.Days.{season, dayType}
+use Rattle.calendar_days.specs.declared.DayKind.{DayKind}
 use Rattle.call_day.specs.Enquiry.{dayTypeFigure}
 use Rattle.text.specs.Text.{space, digit, decimal}
 
@@ -14,8 +13,8 @@ seasonLetter Season.Summer = 83
 seasonLetter Season.Transition = 84
 
 -- "season letter (W, S, T) with day digit (1 weekday, 2 Saturday, 3 Sunday)"
-abbrev pub dayTypeText : List ℕ → Date → List ℕ
-dayTypeText holidays d = seasonLetter (season d) ∷ digit (dayTypeFigure (dayType d holidays)) ∷ []
+abbrev pub dayTypeText : DayKind → List ℕ
+dayTypeText kind = seasonLetter (kind .season) ∷ digit (dayTypeFigure (kind .«day_type»)) ∷ []
 
 -- a number behind the field before it: "fields are split by one space"
 abbrev pub field : ℕ → List ℕ

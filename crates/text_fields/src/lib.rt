@@ -1,10 +1,9 @@
 // Fields of a line (document 01, "The program"), put on a lent page: a number behind a space, and the day type.
+use calendar_days::DayKind;
 use calendar_days::Season;
-use calendar_period::CalendarDay;
 ghost use mathlib.Core.Path.{_≡_};
 ghost use Prim.Native.Nat.{_+_, _≤_};
 ghost use lib.ListN.{length};
-ghost use Rattle.calendar_period.specs.Inside.{RealDay};
 ghost use Rattle.text.specs.Inside.{Put};
 ghost use Rattle.text_fields.specs.Fields.{seasonLetter, dayTypeText, field};
 
@@ -19,14 +18,13 @@ fn season_letter(season: Season) -> u8
 }
 
 // Puts the season letter and the day digit.
-pub fn put_day_type(day: CalendarDay, holidays: &[u32], page: &mut [u8], at: usize) -> usize
-    requires { ⌜ RealDay day ⌝ }
+pub fn put_day_type(kind: DayKind, page: &mut [u8], at: usize) -> usize
     requires { ⌜ at + 2 ≤ length (now page) ⌝ }
-    ensures { λ r. ⌜ Put (dayTypeText (now (holidays .entry)) (day .date)) (now (page .entry)) at r (now (page .exit)) ⌝ }
+    ensures { λ r. ⌜ Put (dayTypeText kind) (now (page .entry)) at r (now (page .exit)) ⌝ }
 {
-    let letter = season_letter(calendar_days::season_of(day.date));
-    let day_type = calendar_days::day_type_of(day.date, day.weekday, holidays);
-    let at = text::put_byte(letter, page, at);
+    let season = kind.season;
+    let day_type = kind.day_type;
+    let at = text::put_byte(season_letter(season), page, at);
     text::put_byte(48 + call_day::day_type_figure(day_type) as u8, page, at)
 }
 

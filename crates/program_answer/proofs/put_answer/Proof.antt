@@ -1,5 +1,5 @@
 -- `program_answer::put_answer` meets its contract: a refusal's line, or the lines of the days and the last one. Assumes nothing.
-use mathlib.Core.Path.{_≡_, refl, sym, _∙_}
+use mathlib.Core.Path.{_≡_, sym, _∙_}
 use mathlib.Core.List.{[]}
 use native.Mathlib.Omega.{arith}
 use borrow.Author.Needs.{needs}
@@ -79,7 +79,7 @@ returns-2 c =
     let q = given (start (v .before)) in
     let o = opened (v .before) in
     accepted-lines q (o .passed)
-    (accepted q (o .passed) refl (table-is q o (v .values-at .ensures)) (o .day) (o .count) (list .list-days .ensures) (line .put-last-line .ensures) (start (v .before) .pre))
+    (accepted q (o .passed) (table-is q o (v .values-at .ensures)) (o .day) (o .count) (list .list-days .ensures) (line .put-last-line .ensures) (start (v .before) .pre))
 
 pub put-answer-spec : {M : Type 1} → statement M
 put-answer-spec =

@@ -22,12 +22,12 @@ put-field-requires c κs = search needs
 
 put-field-requires-2 : tie.Need-put-field-requires-2
 put-field-requires-2 c κs =
-    let a = c .before .before .before .before .before .before .before .before .before .before .before .before .before .before .before .before .before .before .before .args in
+    let a = c .before .before .before .before .before .before .before .before .before .before .before .before .before .before .before .before .before .before .args in
     omega (arith, decimal-short (a .count) 3 (omega arith) (omega arith))
 
 put-byte-requires-2 : tie.Need-put-byte-requires-2
 put-byte-requires-2 c κs =
-    let a = c .before .before .before .before .before .before .before .before .before .before .before .before .before .before .before .before .before .before .before .before .before .before .before .args in
+    let a = c .before .before .before .before .before .before .before .before .before .before .before .before .before .before .before .before .before .before .before .before .before .before .args in
     omega (arith, decimal-short (a .count) 3 (omega arith) (omega arith), decimal-most (a .watt-hours))
 
 same-length : tie.Need-same-length
@@ -42,7 +42,7 @@ returns c =
     let kind = count .before .before .before .before in
     let blank = kind .before .before .before .before in
     let date = blank .before .before .before .before in
-    let start = date .before .before .before .before in
+    let start = date .before .before .before in
     let a = start .args in
     behind (date .put-date .ensures)
     (behind (blank .put-byte .ensures)

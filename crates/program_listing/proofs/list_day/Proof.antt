@@ -1,8 +1,12 @@
--- `program_listing::list_day` meets its contract: a period of one day comes to the day's figures (proofs/DayLine.antt). Assumes nothing.
+-- `program_listing::list_day` meets its contract: the day's powers, clock and kind are its own (proofs/DayLine.antt). Assumes nothing.
+use mathlib.Core.Path.{_≡_}
 use native.Mathlib.Omega.{arith}
 use borrow.Author.Needs.{needs}
+use Rattle.calendar_period.proofs.Period.{own-weekday}
 use Rattle.day_powers.specs.DayQuarters.{Basis, basis}
-use Rattle.program_listing.proofs.DayLine.{one-day, one-room, own-total, few, day-listed}
+use Rattle.series.proofs.OneDay.{powersBefore, own-kind, powers-asked}
+use Rattle.program_listing.proofs.Listing.{values-under-small}
+use Rattle.program_listing.proofs.DayLine.{total-fits, day-listed}
 use Rattle.program_listing.proofs.list_day.Statement.{statement}
 use Rattle.program_listing.proofs.list_day.Tie as tie
 
@@ -10,58 +14,79 @@ use Rattle.program_listing.proofs.list_day.Tie as tie
 abbrev given : tie.Start → Basis
 given start = basis (start .args .values .now) (start .args .group) (start .args .holidays .now)
 
-slice-aggregate-expand-days : tie.Need-slice-aggregate-expand-days
-slice-aggregate-expand-days c = search needs
+-- its powers, made by its own kind
+abbrev of-powers : tie.After-powers-on → tie.Start
+of-powers c = c .before .before .before .before .before .before .before .before
 
-expand-days-requires : tie.Need-expand-days-requires
-expand-days-requires c κs =
-    let start = c .before .before .before .before in (
-      start .pre .0,
-      (
-        one-day (start .pre .1 .0),
-        (start .pre .1 .1 .0, (start .pre .1 .1 .1 .0, (one-room (given start) (start .pre .0) (start .args .day .date), omega arith))),
-      ),
-    )
+own : (c : tie.After-powers-on) → c .powers-on .result ≡ powersBefore (given (of-powers c)) (of-powers c .args .day .date)
+own c = own-kind _ _ (c .before .kind-on .ensures) (c .powers-on .ensures)
 
-put-day-line-requires : tie.Need-put-day-line-requires
-put-day-line-requires c κs =
-    let expanded = c .before .before in
-    let start = expanded .before .before .before .before .before in
-    let small = few (given start) (start .pre .0) (start .args .day .date) (expanded .expand-days .ensures) in
-    (start .pre .1 .0, (omega arith, omega arith))
+clock-of-requires : tie.Need-clock-of-requires
+clock-of-requires c κs =
+    let real = c .before .before .before .pre .1 .0 in
+    (real .real, own-weekday real)
+
+values-under-requires : tie.Need-values-under-requires
+values-under-requires c κs = search needs
+
+cast-values-today : tie.Need-cast-values-today
+cast-values-today c = search needs
 
 add-count : tie.Need-add-count
-add-count c =
-    let expanded = c .before .before .before .before .before .before .before in
-    let start = expanded .before .before .before .before .before in
-    let small = few (given start) (start .pre .0) (start .args .day .date) (expanded .expand-days .ensures) in
-    omega (arith, start .pre .1 .1 .1 .1 .count)
+add-count c = search needs
+
+kind-on-requires : tie.Need-kind-on-requires
+kind-on-requires c κs = search needs
+
+powers-on-requires : tie.Need-powers-on-requires
+powers-on-requires c κs = search needs
+
+total-day-requires : tie.Need-total-day-requires
+total-day-requires c κs =
+    let start = of-powers c in
+    powers-asked (given start) (start .pre .0) (start .args .day .date) (own c) (c .before .before .before .before .clock-of .ensures) (start .pre .1 .0 .real) (start .pre .1 .1 .1 .0)
 
 add-total : tie.Need-add-total
 add-total c =
-    let expanded = c .before .before .before .before .before .before .before .before .before in
-    let start = expanded .before .before .before .before .before in
-    let total = own-total (given start) (start .pre .0) (start .args .day .date) (expanded .expand-days .ensures) in
-    omega (arith, start .pre .1 .1 .1 .1 .total)
+    let summed = c .before .before in
+    let asked = summed .before in
+    let start = of-powers asked in
+    let fits =
+    total-fits (given start) (start .pre .0) (start .args .day .date) (own asked) (asked .before .before .before .before .clock-of .ensures)
+    (start .pre .1 .1 .1 .1) (summed .total-day .ensures) in
+    omega arith
+
+put-day-line-requires : tie.Need-put-day-line-requires
+put-day-line-requires c κs =
+    let today = c .before .before .before .before .before .before .before in
+    let start = today .before .before .before .before .before in
+    let few = values-under-small (today .before .clock-of .result) in
+    (start .pre .1 .0 .real, (omega (arith, today .values-under .ensures), omega (arith, start .pre .1 .1 .1 .1 .line)))
 
 same-length : tie.Need-same-length
 same-length c = search needs
 
 returns : tie.Need-returns
 returns c =
-    let put = c .before .before .before .before .before .before in
-    let expanded = put .before .before .before in
-    let start = expanded .before .before .before .before .before in
-    day-listed (given start) (start .pre .0) (start .args .day .date) (expanded .expand-days .ensures) (put .put-day-line .ensures)
+    let put = c .before .before in
+    let summed = put .before .before .before .before in
+    let asked = summed .before in
+    let start = of-powers asked in
+    day-listed (given start) (start .pre .0) (start .args .day .date) (own asked) (asked .before .before .before .before .clock-of .ensures)
+    (summed .total-day .ensures) (asked .before .before .before .values-under .ensures) (asked .before .kind-on .ensures) (put .put-day-line .ensures)
 
 pub list-day-spec : {M : Type 1} → statement M
 list-day-spec =
     tie.close
     (tie.spec
-    slice-aggregate-expand-days
-    expand-days-requires
-    put-day-line-requires
+    clock-of-requires
+    values-under-requires
+    cast-values-today
     add-count
+    kind-on-requires
+    powers-on-requires
+    total-day-requires
     add-total
+    put-day-line-requires
     same-length
     returns)
