@@ -26,19 +26,11 @@ pub fn expand(
         Opened::Refused(refusal) => return Expansion::Refused(refusal),
     };
     let day = opening.first;
-    if let Verdict::Refused(refusal) = call_request::room_question(day, opening.days, out.len()) {
+    let days = opening.days;
+    if let Verdict::Refused(refusal) = call_request::room_question(day, days, out.len()) {
         return Expansion::Refused(refusal);
     }
     let values = file_read::values_at(file, opening.at);
-    let made = series::expand_days(
-        &values,
-        group,
-        day,
-        opening.days,
-        holidays,
-        yearly,
-        carry,
-        out,
-    );
+    let made = series::expand_days(&values, group, day, days, holidays, yearly, carry, out);
     Expansion::Expanded(made)
 }
