@@ -19,7 +19,9 @@ pub fn put_answer(
     page: &mut [u8],
 ) -> usize
     requires { ⌜ pageLength ≤ length (now page) ⌝ }
-    ensures { λ r. ⌜ Put (linesOf (request (now (file .entry)) group first last (now (holidays .entry)) yearly 0 [])) (now (page .entry)) 0 r (now (page .exit)) ⌝ }
+    ensures { λ r. ⌜ Put
+        (linesOf (request (now (file .entry)) group first last (now (holidays .entry)) yearly 0 []))
+        (now (page .entry)) 0 r (now (page .exit)) ⌝ }
 {
     let opening = match call_open::open(file, group, first, last, holidays, yearly, 0) {
         Opened::Request(opening) => opening,

@@ -6,7 +6,8 @@ use Prim.Native.Nat.{ℕ, zero, suc, _+_}
 use lib.Dec.{leb}
 use lib.ListN.{length, drop}
 use Rattle.refusal.specs.declared.Refusal.{Refusal}
-use Rattle.refusal.specs.declared.Refusal.the-variants.{NoMark, WrongVersion, WrongLength, BadCode, BadValue, NoGroup, BadDate, BadPeriod, BadHoliday, BadUse, BadCarry, ShortOutput, BadInput}
+use Rattle.refusal.specs.declared.Refusal.the-variants.{NoMark, WrongVersion, WrongLength, BadCode, BadValue, NoGroup, BadDate}
+use Rattle.refusal.specs.declared.Refusal.the-variants.{BadPeriod, BadHoliday, BadUse, BadCarry, ShortOutput, BadInput}
 use Rattle.refusal.specs.declared.CheckReport.{CheckReport}
 use Rattle.refusal.specs.declared.Verdict.{Verdict}
 use Rattle.refusal.specs.declared.Verdict.the-variants.{Pass, Refused}
