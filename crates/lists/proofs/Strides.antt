@@ -1,13 +1,14 @@
 -- Places at a stride: the arithmetic of n * k where n strides of k are left, and the laws of `eachFrom`, by induction over the number
 -- of places. Assumes nothing.
-use mathlib.Core.Path.{_≡_, refl, _∙_, ap}
+use mathlib.Core.Path.{_≡_, refl, ap}
 use mathlib.Core.List.{List, [], _∷_, _++_}
 use Prim.Native.Nat.{ℕ, zero, suc, _+_, _-_, _*_, _≤_, _<_, min}
-use native.Mathlib.Nat.{zero-add, suc-mul, zero-min, min-zero, suc-min-suc}
+use native.Mathlib.Nat.{suc-mul, zero-min, min-zero, suc-min-suc}
 use native.Mathlib.Omega.{arith}
 use lib.ListN.{length, take, drop, getD}
-use lib.Seq.{sets, sets-eq}
+use lib.Seq.{sets}
 use Rattle.lists.specs.Lists.{eachFrom}
+use Rattle.lists.proofs.Stores.{stored-first}
 
 -- one stride taken from n
 pub stride : (n k : ℕ) → 0 < n → n * k ≡ (n - 1) * k + k
@@ -57,8 +58,7 @@ module _ {A : Type 0} (f : ℕ → A) (step : ℕ) where
 
   -- what stands at the places, stored from the start of a table on
   pub stored-places : (table : List A) (n at : ℕ) → n ≤ length table → sets table 0 (eachFrom f step n at) ≡ eachFrom f step n at ++ drop n table
-  stored-places table n at h =
-      sets-eq (eachFrom f step n at) table 0 (omega (arith, length-places n at)) ∙ (rw (length-places n at, zero-add))
+  stored-places table n at h = stored-first (eachFrom f step n at) table (length-places n at) h
 
   -- the same stands at as many other places, from `there` on
   pub places-agree : (g : ℕ → A) (n at there : ℕ) → ((i : ℕ) → i < n → f (at + i * step) ≡ g (there + i * step)) →
