@@ -1,12 +1,12 @@
 -- Where a wanted group stands: what it tells that it was found, and what its table holds. Assumes nothing.
-use mathlib.Core.Path.{_≡_, refl, sym, _∙_, ap}
+use mathlib.Core.Path.{_≡_, refl, _∙_, ap}
 use mathlib.Core.Bool.{Bool, true, false, cond}
 use mathlib.Core.List.{List}
 use Prim.Native.Nat.{ℕ, zero, suc, _+_, _-_, _*_, _/_, _≤_, _<_}
 use native.Mathlib.Omega.{arith}
-use native.Mathlib.Nat.{suc-mul, mul-le-mul-right, zero-add}
+use native.Mathlib.Nat.{suc-mul, mul-le-mul-right}
 use lib.Dec.{eqb}
-use lib.ListN.{length, take, drop, getD, length-take, length-drop}
+use lib.ListN.{length, getD, length-take, length-drop}
 use borrow.Author.Tests.{eqb-true, eq-eqb, ne-eqb, ltb-true, lt-ltb, le-ltb}
 use Rattle.lists.proofs.Strides.{length-places, getD-places}
 use Rattle.big_endian.specs.BigEndian.{byteAt, wordAt}
@@ -16,12 +16,12 @@ use Rattle.refusal.specs.declared.Refusal.{Refusal}
 use Rattle.refusal.specs.declared.Refusal.the-variants.{NoGroup}
 use Rattle.refusal.specs.declared.Verdict.{Verdict}
 use Rattle.refusal.specs.declared.Verdict.the-variants.{Pass, Refused}
-use Rattle.refusal.proofs.Questions.{ask-yes, ask-no, then-pass, ask-passed, then-first, then-next}
+use Rattle.refusal.proofs.Questions.{ask-yes, ask-no, ask-passed, then-first, then-next}
 use Rattle.file_layout.specs.declared.Layout.{Layout}
 use Rattle.file_layout.specs.Header.{headerLength, layoutOf, profileLength}
 use Rattle.file_layout.specs.Inside.{LaidOut}
 use Rattle.file_check.specs.Check.{fileCheck}
-use Rattle.file_check.proofs.Check.{Accepted, accepted, value-bound}
+use Rattle.file_check.proofs.Check.{accepted, value-bound}
 use Rattle.file_group.specs.declared.Found.{Found}
 use Rattle.file_group.specs.declared.Found.the-variants.{At}
 use Rattle.file_group.specs.Group.{offsetAmong, groupOffset, groupQuestion, check, valuesOffset, tableOf}

@@ -83,7 +83,7 @@ written-reads-back codes values room pass =
       λ i h.
           let at = found codes values room w i h in
           let inside : groupOffset (written codes values) (getD codes i 0) < length (written codes values) =
-              omega (arith, at, length-written codes values (w .amount .each)) in (
+          omega (arith, at, length-written codes values (w .amount .each)) in (
             then-pass _ (file-passes codes values room w) ∙ group-there (written codes values) (getD codes i 0) 0 inside,
             ap (λ (offset : ℕ). wordsFrom (written codes values) 864 (offset + 1)) at ∙ values-at codes values (w .amount .each) i h,
           ),

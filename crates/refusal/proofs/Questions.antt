@@ -46,10 +46,14 @@ pub ask-no : {b : Bool} (r : Refusal) → b ≡ false → ask b r ≡ Refused r
 unfolding ask
 ask-no r h = rw h
 
-pub ask-not : (b : Bool) (r : Refusal) → (b ≡ true → ⊥) → ask b r ≡ Refused r
-unfolding ask
-ask-not true r never = absurd (never refl)
-ask-not false r never = refl
+-- a test that cannot hold does not
+pub fails : (b : Bool) → (b ≡ true → ⊥) → b ≡ false
+fails true never = absurd (never refl)
+fails false never = refl
+
+-- a question that cannot pass is answered by its refusal
+pub refuses : (b : Bool) (r : Refusal) → (ask b r ≡ Pass → ⊥) → Refused r ≡ ask b r
+refuses b r never = sym (ask-no r (fails b (λ h. never (ask-yes r h))))
 
 -- One question after the other.
 pub then-pass : {v : Verdict} (next : Verdict) → v ≡ Pass → (v then next) ≡ next

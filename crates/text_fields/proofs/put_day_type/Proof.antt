@@ -44,7 +44,9 @@ returns c =
     let kind = first .before .before in
     let letter = kind .before in
     let start = letter .before .before .before .before in
-    rw (day-type-text (start .args .holidays .now) (start .args .day .date) (letter .before .season-of .ensures) (letter .season-letter .ensures) (kind .day-type-of .ensures) (digit .day-type-figure .ensures))
+    rw
+    (day-type-text (start .args .holidays .now) (start .args .day .date) (letter .before .season-of .ensures) (letter .season-letter .ensures)
+    (kind .day-type-of .ensures) (digit .day-type-figure .ensures))
     (put-put (first .put-byte .ensures) (second .put-byte2 .ensures) (omega arith))
 
 pub put-day-type-spec : {M : Type 1} → statement M
