@@ -1,5 +1,5 @@
 -- Where a wanted group stands: what it tells that it was found, and what its table holds. Assumes nothing.
-use mathlib.Core.Path.{_≡_, refl, _∙_, ap}
+use mathlib.Core.Path.{_≡_, refl, sym, _∙_, ap}
 use mathlib.Core.Bool.{Bool, true, false, cond}
 use mathlib.Core.List.{List}
 use Prim.Native.Nat.{ℕ, zero, suc, _+_, _-_, _*_, _/_, _≤_, _<_}
@@ -142,10 +142,11 @@ pub record FoundAt (file : List ℕ) (group at : ℕ) : Type 0 where
   pub place : at ≡ groupOffset file group
 
 module _ (file : List ℕ) (group : ℕ) {at : ℕ} where
-  pub found-checked : At at ≡ foundBy (check file group) (groupOffset file group) → FoundAt file group at
-  found-checked h =
-      let told = found-at _ h in
-      record { checked = check-passed file group (told .0); place = told .1 }
+  pub found-checked : {found : Found} → found ≡ At at → found ≡ foundBy (check file group) (groupOffset file group) →
+      (check file group ≡ Pass) × FoundAt file group at
+  found-checked e h =
+      let told = found-at _ (sym e ∙ h) in
+      (told .0, record { checked = check-passed file group (told .0); place = told .1 })
 
   pub found-besides : (place : ℕ) → fileCheck file ≡ Pass → At at ≡ foundBy (groupQuestion file group place) (groupOffset file group) → FoundAt file group at
   found-besides place p h =

@@ -17,6 +17,21 @@ stride (suc n) k h =
     let e : suc n - 1 ≡ n = omega arith in
     rw e (suc-mul n k)
 
+-- n strides are left, from `at` to `end`
+pub record Ahead (step n at end : ℕ) : Type 0 where
+  pub ends : at + n * step ≡ end
+
+module _ {step n at end : ℕ} (ahead : Ahead step n at end) where
+  -- the next stride lies before the end, and behind it one less is left
+  pub next-inside : 0 < n → at + step ≤ end
+  next-inside h = omega (arith, stride n step h)
+
+  pub one-less : 0 < n → Ahead step (n - 1) (at + step) end
+  one-less h = record { ends = omega (arith, stride n step h) }
+
+  pub none-ahead : n ≤ 0 → at ≡ end
+  none-ahead h = let e : n ≡ 0 = omega arith in omega (arith, rw e at (ahead .ends))
+
 -- the first place, and those after it
 here : (at k : ℕ) → at + zero * k ≡ at
 here at k = omega arith

@@ -2,11 +2,11 @@
 -- left end where the file ends, and before each code but the first one there is a profile. The measure is how many are left.
 -- Assumes nothing.
 use mathlib.Core.Path.{_≡_, refl, sym}
-use Prim.Native.Nat.{_+_, _*_, _≤_}
+use Prim.Native.Nat.{_≤_}
 use native.Mathlib.Omega.{arith}
 use lib.ListN.{length}
 use borrow.Author.Needs.{needs}
-use Rattle.lists.proofs.Strides.{stride}
+use Rattle.lists.proofs.Strides.{Ahead, next-inside, one-less}
 use Rattle.refusal.proofs.Questions.{Asking, refused-here, passed-here, all-passed}
 use Rattle.file_layout.specs.Header.{headerLength}
 use Rattle.file_check.specs.Check.{codeQuestion, codesQuestion}
@@ -16,7 +16,7 @@ use Rattle.file_check.proofs.codes_question.Tie as tie
 abbrev Inv-loop : tie.InvT-loop
 Inv-loop layout file step left₀ at₀ left at =
     Asking (codeQuestion layout file) step left at (codesQuestion layout file)
-    × (at + left * step ≡ length file)
+    × Ahead step left at (length file)
     × ((at ≡ headerLength → ⊥) → step ≤ at)
 
 abbrev μ-loop : tie.MeasureT-loop
@@ -26,14 +26,14 @@ profile-length-requires : tie.Need-profile-length-requires Inv-loop μ-loop
 profile-length-requires c κs = c .before .pre .sound
 
 loop-holds : tie.Need-loop-holds Inv-loop μ-loop
-loop-holds c = rw (c .profile-length .ensures) (record { asked = refl }, sym (c .before .before .pre .whole), λ n. absurd (n refl))
+loop-holds c = rw (c .profile-length .ensures) (record { asked = refl }, record { ends = sym (c .before .before .pre .whole) }, λ n. absurd (n refl))
 
 code-question-requires : tie.Need-code-question-requires Inv-loop μ-loop
 code-question-requires c κs =
     let l = c .before .loop in
     record {
       sound = c .before .before .before .before .pre .sound;
-      inside = omega (arith, stride (l .left) (c .before .before .profile-length .result) (omega arith));
+      inside = omega (arith, next-inside (l .inv .1) (omega arith));
       earlier = λ n. omega (arith, l .inv .2 n);
     }
 
@@ -49,9 +49,7 @@ returns c =
     refused-here (l .inv .0) (omega arith) (c .before .before .code-question .ensures) (search needs)
 
 add-at : tie.Need-add-at Inv-loop μ-loop
-add-at c =
-    let l = c .before .before .before .before .loop in
-    omega (arith, stride (l .left) (c .before .before .before .before .before .profile-length .result) (omega arith))
+add-at c = omega (arith, next-inside (c .before .before .before .before .loop .inv .1) (omega arith))
 
 sub-left : tie.Need-sub-left Inv-loop μ-loop
 sub-left c = omega arith
@@ -63,7 +61,7 @@ loop-again : tie.Need-loop-again Inv-loop μ-loop
 loop-again c =
     let l = c .before .before .before .before .loop in (
       passed-here (l .inv .0) (omega arith) (c .before .before .code-question .ensures) (c .enum-told .given .1),
-      omega (arith, stride (l .left) (c .before .before .before .before .before .profile-length .result) (omega arith)),
+      one-less (l .inv .1) (omega arith),
       λ n. omega arith,
     )
 

@@ -1,11 +1,10 @@
 -- `file_values::values_question` meets its contract. The loop's invariant: what is left to ask is all that counts, and the profiles that
 -- are left end where the file ends. The measure is how many are left. Assumes nothing.
-use mathlib.Core.Path.{_≡_, refl, sym}
-use Prim.Native.Nat.{_+_, _*_}
+use mathlib.Core.Path.{refl, sym}
 use native.Mathlib.Omega.{arith}
 use lib.ListN.{length}
 use borrow.Author.Needs.{needs}
-use Rattle.lists.proofs.Strides.{stride}
+use Rattle.lists.proofs.Strides.{Ahead, next-inside, one-less}
 use Rattle.refusal.proofs.Questions.{Asking, refused-here, passed-here, all-passed}
 use Rattle.file_values.specs.Values.{profileValuesQuestion, valuesQuestion}
 use Rattle.file_values.proofs.values_question.Statement.{statement}
@@ -14,7 +13,7 @@ use Rattle.file_values.proofs.values_question.Tie as tie
 abbrev Inv-loop : tie.InvT-loop
 Inv-loop layout file step left₀ at₀ left at =
     Asking (profileValuesQuestion layout file) step left at (valuesQuestion layout file)
-    × (at + left * step ≡ length file)
+    × Ahead step left at (length file)
 
 abbrev μ-loop : tie.MeasureT-loop
 μ-loop layout file step left₀ at₀ left at = left
@@ -23,12 +22,12 @@ profile-length-requires : tie.Need-profile-length-requires Inv-loop μ-loop
 profile-length-requires c κs = c .before .pre .sound
 
 loop-holds : tie.Need-loop-holds Inv-loop μ-loop
-loop-holds c = rw (c .profile-length .ensures) (record { asked = refl }, sym (c .before .before .pre .whole))
+loop-holds c = rw (c .profile-length .ensures) (record { asked = refl }, record { ends = sym (c .before .before .pre .whole) })
 
 profile-values-question-requires : tie.Need-profile-values-question-requires Inv-loop μ-loop
 profile-values-question-requires c κs =
     let l = c .before .loop in
-    omega (arith, stride (l .left) (c .before .before .profile-length .result) (omega arith))
+    omega (arith, next-inside (l .inv .1) (omega arith))
 
 enum-told : tie.Need-enum-told Inv-loop μ-loop
 enum-told c = search needs
@@ -42,9 +41,7 @@ returns c =
     refused-here (l .inv .0) (omega arith) (c .before .before .profile-values-question .ensures) (search needs)
 
 add-at : tie.Need-add-at Inv-loop μ-loop
-add-at c =
-    let l = c .before .before .before .before .loop in
-    omega (arith, stride (l .left) (c .before .before .before .before .before .profile-length .result) (omega arith))
+add-at c = omega (arith, next-inside (c .before .before .before .before .loop .inv .1) (omega arith))
 
 sub-left : tie.Need-sub-left Inv-loop μ-loop
 sub-left c = omega arith
@@ -56,7 +53,7 @@ loop-again : tie.Need-loop-again Inv-loop μ-loop
 loop-again c =
     let l = c .before .before .before .before .loop in (
       passed-here (l .inv .0) (omega arith) (c .before .before .profile-values-question .ensures) (c .enum-told .given .1),
-      omega (arith, stride (l .left) (c .before .before .before .before .before .profile-length .result) (omega arith)),
+      one-less (l .inv .1) (omega arith),
     )
 
 returns-2 : tie.Need-returns-2 Inv-loop μ-loop
