@@ -58,7 +58,7 @@ module _ (one two : List ℕ) {yearly carry : ℕ} {before middle after : List �
 -- stores of n figures as a contract says them
 pub stored-figures : (figs before : List ℕ) (at n : ℕ) → length figs ≡ n → at + n ≤ length before →
     sets before at figs ≡ take at before ++ (figs ++ drop (at + n) before)
-stored-figures figs before at n e h = rw (← e) (stored figs before at (rw e h))
+stored-figures figs before at n e h = stored figs before at e h
 
 -- the day's two ranges
 module _ (powers : List ℕ) (clock : Clock) {yearly carry end begin : ℕ} {before middle : List ℕ} {at : ℕ} {first : Carried}

@@ -1,13 +1,14 @@
 -- A range's loop by remaining work: what is stored, put together with the figures of the powers still left, is the whole. Laws
 -- for its start, turn and end. Assumes nothing.
 use mathlib.Core.Path.{_≡_, refl, _∙_}
-use mathlib.Core.List.{List, []}
+use mathlib.Core.List.{List, [], _∷_}
 use Prim.Native.Nat.{ℕ, _+_, _-_, _*_, _/_, _%_, _^_, _≤_, _<_}
 use native.Mathlib.Omega.{arith}
 use native.Mathlib.Numerals.{add-one}
 use lib.ListN.{length, getD, set}
-use lib.Seq.{sets, slice, slice-cons, slice-empty}
+use lib.Seq.{slice, slice-cons, slice-empty}
 use Rattle.lists.specs.Lists.{sum}
+use Rattle.lists.proofs.Stores.{Storing, nothing-stored, one-stored, all-stored}
 use Rattle.carry.specs.Carry.{largestCarry, figures, lastCarry}
 use Rattle.carry_quotients.specs.declared.Carried.{Carried}
 use Rattle.carry_quotients.specs.Inside.{RangeCarried}
@@ -15,14 +16,14 @@ use Rattle.carry_quotients.specs.Inside.{RangeCarried}
 -- the carry and the products so far come to s, of which `total` Wh are stored; `left` are the powers still to come
 pub record Left (powers : List ℕ) (yearly carry : ℕ) (before : List ℕ) (at : ℕ) (left : List ℕ) (s total : ℕ) (out : List ℕ) (place : ℕ) : Type 0 where
   pub quotient : total ≡ s / 40_000
-  pub figuresLeft : sets out place (figures yearly left (s % 40_000)) ≡ sets before at (figures yearly powers carry)
+  pub figuresLeft : Storing before at (figures yearly powers carry) out place (figures yearly left (s % 40_000))
   pub totalLeft : total + sum (figures yearly left (s % 40_000)) ≡ sum (figures yearly powers carry)
   pub carryLeft : lastCarry yearly left (s % 40_000) ≡ lastCarry yearly powers carry
 
 pub start : (powers : List ℕ) (yearly carry : ℕ) (before : List ℕ) (at : ℕ) → carry ≤ largestCarry → Left powers yearly carry before at powers carry 0 before at
 start powers yearly carry before at h =
     let kept : carry % 40_000 ≡ carry = omega arith in
-    record { quotient = omega arith; figuresLeft = rw kept; totalLeft = rw kept (omega arith); carryLeft = rw kept }
+    record { quotient = omega arith; figuresLeft = rw kept nothing-stored; totalLeft = rw kept (omega arith); carryLeft = rw kept }
 
 module _ {powers : List ℕ} {yearly carry : ℕ} {before : List ℕ} {at : ℕ} where
   -- a turn: the growth of the quotient is the document's carry step
@@ -34,14 +35,14 @@ module _ {powers : List ℕ} {yearly carry : ℕ} {before : List ℕ} {at : ℕ}
   turn day from to {s} {total} {out} {place} h k l =
       let p = getD day from 0 in
       let q = l .quotient in
-      let e = slice-cons from to day 0 h k in
+      let e : slice from to day ≡ p ∷ slice (from + 1) to day = rw (add-one from) (slice-cons from to day 0 h k) in
       let figure : (p * yearly + s % 40_000) / 40_000 ≡ (s + p * yearly) / 40_000 - total = omega arith in
       let next : (p * yearly + s % 40_000) % 40_000 ≡ (s + p * yearly) % 40_000 = omega arith in
       record {
         quotient = refl;
-        figuresLeft = rw (add-one from, add-one place) (rw (e, figure, next) at (l .figuresLeft));
-        totalLeft = rw (add-one from) (omega (arith, rw (e, figure, next) at (l .totalLeft)));
-        carryLeft = rw (add-one from, ← next) (rw e at (l .carryLeft));
+        figuresLeft = one-stored (l .figuresLeft) (rw (e, figure, next)) refl;
+        totalLeft = omega (arith, rw (e, figure, next) at (l .totalLeft));
+        carryLeft = rw (← next) (rw e at (l .carryLeft));
       }
 
   -- no powers are left
@@ -53,7 +54,7 @@ module _ {powers : List ℕ} {yearly carry : ℕ} {before : List ℕ} {at : ℕ}
   done day from to h t small k l =
       let e : slice from to day ≡ [] = rw h (slice-empty to day) in
       record {
-        figuresStored = rw e at (l .figuresLeft);
+        figuresStored = all-stored (l .figuresLeft) (rw e);
         totalIs = omega (arith, rw e at (l .totalLeft));
         totalSmall = omega arith;
         carryIs = k ∙ (rw e at (l .carryLeft));

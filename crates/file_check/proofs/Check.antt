@@ -1,22 +1,21 @@
 -- What a file that passed its questions tells, by name: the facts that callers of the reader need.
 -- Each question that passed is turned back into the facts that it asks. Assumes nothing.
 use mathlib.Core.Path.{_≡_}
-use mathlib.Core.Bool.{_||_}
 use mathlib.Core.List.{List}
 use Prim.Native.Nat.{ℕ, _+_, _-_, _*_, _≤_, _<_}
 use native.Mathlib.Omega.{arith}
-use lib.Dec.{leb, ltb, eqb}
-use borrow.Author.Tests.{leb-true, ltb-true, ne-eqb}
+use borrow.Author.Tests.{leb-true}
 use Rattle.lists.proofs.Strides.{stride}
 use Rattle.big_endian.specs.BigEndian.{byteAt, wordAt}
 use Rattle.refusal.specs.declared.Verdict.the-variants.{Pass}
-use Rattle.refusal.specs.declared.Refusal.the-variants.{BadValue, BadCode}
-use Rattle.refusal.proofs.Questions.{ask-passed, then-first, then-next, each-passed, both}
+use Rattle.refusal.specs.declared.Refusal.the-variants.{BadValue}
+use Rattle.refusal.proofs.Questions.{ask-passed, then-first, then-next, each-passed}
 use Rattle.file_layout.specs.declared.Layout.{Layout}
 use Rattle.file_layout.specs.Header.{headerLength, layoutOf, profileLength, headerCheck}
 use Rattle.file_layout.proofs.Header.{Headed, sound, headed}
 use Rattle.file_values.specs.Values.{valueQuestion, profileValuesQuestion, valuesQuestion}
 use Rattle.file_check.specs.Check.{codeQuestion, codesQuestion, fileCheck}
+use Rattle.file_check.proofs.Codes.{RisingAt, rising-at}
 
 -- questions 1 to 5 passed
 pub record Accepted (file : List ℕ) : Type 0 where
@@ -39,7 +38,8 @@ abbrev pub profileAt : Layout → ℕ → ℕ
 profileAt layout k = headerLength + k * profileLength layout
 
 -- every value is at most 20,000
-pub value-bound : (file : List ℕ) → Accepted file → (k i : ℕ) → k < layoutOf file .count → i < layoutOf file .values → wordAt file (profileAt (layoutOf file) k + layoutOf file .before + i * 2) ≤ 20_000
+pub value-bound : (file : List ℕ) → Accepted file → (k i : ℕ) → k < layoutOf file .count → i < layoutOf file .values →
+    wordAt file (profileAt (layoutOf file) k + layoutOf file .before + i * 2) ≤ 20_000
 unfolding profileValuesQuestion valueQuestion
 value-bound file a k i hk hi =
     let layout = layoutOf file in
@@ -49,23 +49,18 @@ value-bound file a k i hk hi =
 
 -- codes are 0 to 10, "each above the one before"
 module _ (file : List ℕ) (a : Accepted file) (k : ℕ) (below : k < layoutOf file .count) where
-  code-passed : codeQuestion (layoutOf file) file (profileAt (layoutOf file) k) ≡ Pass
-  code-passed =
+  rising-code : RisingAt (layoutOf file) file (profileAt (layoutOf file) k)
+  rising-code =
       let layout = layoutOf file in
-      each-passed (codeQuestion layout file) (profileLength layout) (layout .count) headerLength k (a .codes) below
+      rising-at _ _ _ (each-passed (codeQuestion layout file) (profileLength layout) (layout .count) headerLength k (a .codes) below)
 
   pub code-bound : byteAt file (profileAt (layoutOf file) k) ≤ 10
-  unfolding codeQuestion
-  code-bound = leb-true _ _ (both _ _ (ask-passed _ (BadCode _) code-passed) .0)
+  code-bound = rising-code .bound
 
   pub codes-rise : 0 < k → byteAt file (profileAt (layoutOf file) (k - 1)) < byteAt file (profileAt (layoutOf file) k)
-  unfolding codeQuestion
   codes-rise h =
-      let step = profileLength (layoutOf file) in
       let at = profileAt (layoutOf file) k in
-      let s = stride k step h in
+      let s = stride k (profileLength (layoutOf file)) h in
       let c = sound file .coded in
-      let first-or-above = eqb at headerLength || ltb (byteAt file (at - step)) (byteAt file at) in
-      let later : at ≡ headerLength → ⊥ = λ e. omega arith in
-      let before : at - step ≡ profileAt (layoutOf file) (k - 1) = omega arith in
-      ltb-true _ _ (rw (ne-eqb _ _ later, before) at (both (leb (byteAt file at) 10) first-or-above (ask-passed _ (BadCode at) code-passed) .1))
+      let before : at - profileLength (layoutOf file) ≡ profileAt (layoutOf file) (k - 1) = omega arith in
+      rw before at (rising-code .rises (λ e. omega arith))

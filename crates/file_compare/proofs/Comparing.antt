@@ -8,7 +8,7 @@ use Rattle.refusal.specs.declared.Refusal.{Refusal}
 use Rattle.refusal.specs.declared.Verdict.the-variants.{Pass, Refused}
 use Rattle.refusal.proofs.Questions.{then-pass, then-first, then-next, refused-second}
 use Rattle.file_check.specs.Check.{fileCheck}
-use Rattle.file_group.specs.Group.{groupOffset, groupQuestion, check, tableOf}
+use Rattle.file_group.specs.Group.{groupQuestion, check, tableOf}
 use Rattle.file_compare.specs.declared.Comparison.{Comparison}
 use Rattle.file_compare.specs.declared.Comparison.the-variants.{Alike, Different}
 use Rattle.file_compare.specs.Comparing.{compareCheck, same, comparison, reportedComparison}

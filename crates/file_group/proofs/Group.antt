@@ -4,9 +4,9 @@ use mathlib.Core.Bool.{Bool, true, false, cond}
 use mathlib.Core.List.{List}
 use Prim.Native.Nat.{ℕ, zero, suc, _+_, _-_, _*_, _/_, _≤_, _<_}
 use native.Mathlib.Omega.{arith}
-use native.Mathlib.Nat.{suc-mul, mul-le-mul-right, zero-add}
+use native.Mathlib.Nat.{suc-mul, mul-le-mul-right}
 use lib.Dec.{eqb}
-use lib.ListN.{length, take, drop, getD, length-take, length-drop}
+use lib.ListN.{length, getD, length-take, length-drop}
 use borrow.Author.Tests.{eqb-true, eq-eqb, ne-eqb, ltb-true, lt-ltb, le-ltb}
 use Rattle.lists.proofs.Strides.{length-places, getD-places}
 use Rattle.big_endian.specs.BigEndian.{byteAt, wordAt}
@@ -16,12 +16,12 @@ use Rattle.refusal.specs.declared.Refusal.{Refusal}
 use Rattle.refusal.specs.declared.Refusal.the-variants.{NoGroup}
 use Rattle.refusal.specs.declared.Verdict.{Verdict}
 use Rattle.refusal.specs.declared.Verdict.the-variants.{Pass, Refused}
-use Rattle.refusal.proofs.Questions.{ask-yes, ask-no, then-pass, ask-passed, then-first, then-next}
+use Rattle.refusal.proofs.Questions.{ask-yes, ask-no, ask-passed, then-first, then-next}
 use Rattle.file_layout.specs.declared.Layout.{Layout}
 use Rattle.file_layout.specs.Header.{headerLength, layoutOf, profileLength}
 use Rattle.file_layout.specs.Inside.{LaidOut}
 use Rattle.file_check.specs.Check.{fileCheck}
-use Rattle.file_check.proofs.Check.{Accepted, accepted, value-bound}
+use Rattle.file_check.proofs.Check.{accepted, value-bound}
 use Rattle.file_group.specs.declared.Found.{Found}
 use Rattle.file_group.specs.declared.Found.the-variants.{At}
 use Rattle.file_group.specs.Group.{offsetAmong, groupOffset, groupQuestion, check, valuesOffset, tableOf}
@@ -142,10 +142,11 @@ pub record FoundAt (file : List ℕ) (group at : ℕ) : Type 0 where
   pub place : at ≡ groupOffset file group
 
 module _ (file : List ℕ) (group : ℕ) {at : ℕ} where
-  pub found-checked : At at ≡ foundBy (check file group) (groupOffset file group) → FoundAt file group at
-  found-checked h =
-      let told = found-at _ h in
-      record { checked = check-passed file group (told .0); place = told .1 }
+  pub found-checked : {found : Found} → found ≡ At at → found ≡ foundBy (check file group) (groupOffset file group) →
+      (check file group ≡ Pass) × FoundAt file group at
+  found-checked e h =
+      let told = found-at _ (sym e ∙ h) in
+      (told .0, record { checked = check-passed file group (told .0); place = told .1 })
 
   pub found-besides : (place : ℕ) → fileCheck file ≡ Pass → At at ≡ foundBy (groupQuestion file group place) (groupOffset file group) → FoundAt file group at
   found-besides place p h =

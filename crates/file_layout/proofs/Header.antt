@@ -7,10 +7,11 @@ use native.Mathlib.Omega.{arith}
 use lib.ListN.{length}
 use borrow.Author.Tests.{leb-true, eqb-true}
 use Rattle.big_endian.specs.BigEndian.{byteAt, wordAt}
-use Rattle.refusal.specs.declared.Verdict.the-variants.{Pass}
+use Rattle.refusal.specs.declared.Verdict.the-variants.{Pass, Refused}
 use Rattle.refusal.specs.declared.Refusal.the-variants.{NoMark, WrongVersion, WrongLength}
-use Rattle.refusal.proofs.Questions.{ask-passed, then-first, then-next, both}
-use Rattle.file_layout.specs.Header.{mark, headerLength, layoutOf, markQuestion, versionQuestion, lengthQuestion, headerCheck}
+use Rattle.refusal.proofs.Questions.{refuses, ask-passed, then-first, then-next, both}
+use Rattle.file_layout.specs.declared.Layout.{Layout}
+use Rattle.file_layout.specs.Header.{mark, headerLength, layoutOf, fileLength, markQuestion, versionQuestion, lengthQuestion, headerCheck}
 use Rattle.file_layout.specs.Inside.{Sound, LaidOut}
 
 -- questions 1 to 3 passed
@@ -29,11 +30,11 @@ unfolding layoutOf
 sound file = record { coded = omega arith; small = omega arith }
 
 -- question 1 passed
-record Marked (file : List ℕ) : Type 0 where
-  long : headerLength ≤ length file
-  letter0 : byteAt file 0 ≡ byteAt mark 0
-  letter1 : byteAt file 1 ≡ byteAt mark 1
-  letter2 : byteAt file 2 ≡ byteAt mark 2
+pub record Marked (file : List ℕ) : Type 0 where
+  pub long : headerLength ≤ length file
+  pub letter0 : byteAt file 0 ≡ byteAt mark 0
+  pub letter1 : byteAt file 1 ≡ byteAt mark 1
+  pub letter2 : byteAt file 2 ≡ byteAt mark 2
 
 marked : (file : List ℕ) → markQuestion file ≡ Pass → Marked file
 unfolding markQuestion
@@ -48,25 +49,45 @@ marked file h =
       letter2 = eqb-true _ _ (all .1);
     }
 
+pub no-mark : (file : List ℕ) → (Marked file → ⊥) → Refused NoMark ≡ markQuestion file
+unfolding markQuestion
+no-mark file never = refuses _ NoMark (λ h. never (marked file h))
+
+-- question 3 passed
+pub record Counted (layout : Layout) (file : List ℕ) : Type 0 where
+  pub some : 1 ≤ layout .count
+  pub most : layout .count ≤ 11
+  pub whole : length file ≡ fileLength layout
+
+counted : (layout : Layout) (file : List ℕ) → lengthQuestion layout file ≡ Pass → Counted layout file
+unfolding lengthQuestion
+counted layout file h =
+    let all = both _ _ (ask-passed _ WrongLength h) in
+    let ends = both _ _ (all .0) in
+    record { some = leb-true _ _ (ends .0); most = leb-true _ _ (ends .1); whole = eqb-true _ _ (all .1) }
+
+pub wrong-length : (layout : Layout) (file : List ℕ) → (Counted layout file → ⊥) → Refused WrongLength ≡ lengthQuestion layout file
+unfolding lengthQuestion
+wrong-length layout file never = refuses _ WrongLength (λ h. never (counted layout file h))
+
 pub header-long : (file : List ℕ) → markQuestion file ≡ Pass → headerLength ≤ length file
 header-long file h = marked file h .long
 
 pub headed : (file : List ℕ) → headerCheck file ≡ Pass → Headed file
-unfolding headerCheck versionQuestion lengthQuestion
+unfolding headerCheck versionQuestion
 headed file h =
     let letters = marked file (then-first (markQuestion file) _ h) in
     let rest = then-next (markQuestion file) _ h in
-    let counted = both _ _ (ask-passed _ WrongLength (then-next (versionQuestion file) _ rest)) in
-    let ends = both _ _ (counted .0) in
+    let count = counted (layoutOf file) file (then-next (versionQuestion file) _ rest) in
     record {
       header = letters .long;
       letter0 = letters .letter0;
       letter1 = letters .letter1;
       letter2 = letters .letter2;
       version = eqb-true _ _ (ask-passed _ WrongVersion (then-first (versionQuestion file) _ rest));
-      some = leb-true _ _ (ends .0);
-      most = leb-true _ _ (ends .1);
-      laid = record { sound = sound file; whole = eqb-true _ _ (counted .1) };
+      some = count .some;
+      most = count .most;
+      laid = record { sound = sound file; whole = count .whole };
     }
 
 -- a file of at most 11 small profiles is small

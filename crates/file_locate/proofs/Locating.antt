@@ -9,7 +9,7 @@ use denote.Ref.{RefT, now}
 use Rattle.refusal.specs.declared.Refusal.{Refusal}
 use Rattle.refusal.specs.declared.Verdict.the-variants.{Pass, Refused}
 use Rattle.file_layout.specs.Header.{layoutOf}
-use Rattle.file_group.specs.Group.{check, valuesOffset}
+use Rattle.file_group.specs.Group.{check}
 use Rattle.file_group.specs.Inside.{valueBytes, ValuesOf}
 use Rattle.file_group.proofs.Group.{FoundAt, part-length}
 use Rattle.file_locate.specs.declared.LocatedPart.{LocatedPart}

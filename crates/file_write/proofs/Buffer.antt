@@ -1,14 +1,12 @@
--- Stores into the buffer, one after the other, come to the bytes of values, of profiles and of the file. A loop's turn stores
--- the first of what is left to store. Assumes nothing.
-use mathlib.Core.Path.{_≡_, sym, _∙_}
+-- The bytes of values, of profiles and of the file, one behind the other, as loops store them. Assumes nothing.
+use mathlib.Core.Path.{_≡_, refl, _∙_}
 use mathlib.Core.List.{List, [], _∷_, _++_}
-use Prim.Native.Nat.{ℕ, suc, _+_, _-_, _*_, _≤_, _<_}
-use native.Mathlib.Numerals.{add-one}
+use Prim.Native.Nat.{ℕ, _+_, _-_, _*_, _≤_, _<_}
 use native.Mathlib.Omega.{arith}
-use native.Mathlib.Nat.{zero-add}
-use lib.ListN.{length, take, drop, getD, set, length-drop, drop-of-length-le}
-use lib.Seq.{sets, sets-eq, drop-cons, drop-drop, length-take-le}
-use Rattle.lists.proofs.Stores.{sets-append}
+use lib.ListN.{length, take, drop, getD, length-drop, drop-of-length-le}
+use lib.Seq.{sets, drop-drop, length-take-le}
+use Rattle.lists.proofs.Stores.{stored-first}
+use Rattle.lists.proofs.Parts.{drop-next}
 use Rattle.big_endian.specs.BigEndian.{bytesOf}
 use Rattle.refusal.specs.declared.Verdict.{Verdict}
 use Rattle.refusal.specs.declared.Verdict.the-variants.{Pass, Refused}
@@ -18,35 +16,34 @@ use Rattle.file_layout.specs.Header.{mark}
 use Rattle.file_written.specs.Written.{profilesOf, written}
 use Rattle.file_written.proofs.Written.{part-of, length-bytes}
 
--- a turn stores value i, and the last turn leaves nothing to store
-pub value-stored : (values buffer : List ℕ) {after : List ℕ} (i at : ℕ) → i < length values →
-    after ≡ sets buffer at (bytesOf (getD values i 0 ∷ [])) →
-    sets after (at + 2) (bytesOf (drop (i + 1) values)) ≡ sets buffer at (bytesOf (drop i values))
+-- the bytes of value i and of those behind it, and of none
+pub values-next : (values : List ℕ) (i : ℕ) → i < length values →
+    bytesOf (drop i values) ≡ bytesOf (getD values i 0 ∷ []) ++ bytesOf (drop (i + 1) values)
 unfolding bytesOf
-value-stored values buffer i at h e =
-    let next : at + 2 ≡ suc (suc at) = omega arith in
-    rw (e, next, add-one i, drop-cons values i 0 h)
+values-next values i h = rw (drop-next values i h)
 
-pub values-done : (values buffer : List ℕ) (i at : ℕ) → length values ≤ i → sets buffer at (bytesOf (drop i values)) ≡ buffer
+pub values-done : (values : List ℕ) (i : ℕ) → length values ≤ i → bytesOf (drop i values) ≡ []
 unfolding bytesOf
-values-done values buffer i at h = rw (drop-of-length-le values h)
+values-done values i h = rw (drop-of-length-le values h)
 
--- a turn stores profile i, its code and its n values, and the last turn leaves nothing to store
-module _ (n : ℕ) (codes values buffer : List ℕ) (i from at : ℕ) where
-  pub profile-stored : {after : List ℕ} → i < length codes → from + n ≤ length values →
-      after ≡ sets (set buffer at (getD codes i 0)) (at + 1) (bytesOf (take (from + n - from) (drop from values))) →
-      sets after (at + (1 + n * 2)) (profilesOf n (drop (i + 1) codes) (drop (from + n) values))
-      ≡ sets buffer at (profilesOf n (drop i codes) (drop from values))
+-- the bytes of the n values of a profile, lent from `from` on
+abbrev pub lentBytes : ℕ → List ℕ → ℕ → List ℕ
+lentBytes n values from = bytesOf (take (from + n - from) (drop from values))
+
+-- profile i, its code and its n values, and those behind it, and none
+module _ (n : ℕ) (codes values : List ℕ) (i from : ℕ) where
+  pub profiles-next : i < length codes →
+      profilesOf n (drop i codes) (drop from values)
+      ≡ getD codes i 0 ∷ (lentBytes n values from ++ profilesOf n (drop (i + 1) codes) (drop (from + n) values))
   unfolding profilesOf
-  profile-stored h room e =
-      let own : List ℕ = bytesOf (take n (drop from values)) in
-      let full : length own ≡ n * 2 =
-      omega (arith, length-bytes (take n (drop from values)), length-take-le n (drop from values) (simp length-drop (omega arith))) in
-      let next : at + (1 + n * 2) ≡ suc at + length own = omega arith in
-      rw (e, part-of from n values, next, add-one i, add-one at, ← drop-drop n from values, drop-cons codes i 0 h)
-      (sym (sets-append (set buffer at (getD codes i 0)) own (profilesOf n (drop (suc i) codes) (drop n (drop from values))) (suc at)))
+  profiles-next h = rw (part-of from n values, ← drop-drop n from values, drop-next codes i h)
 
-  pub profiles-done : length codes ≤ i → sets buffer at (profilesOf n (drop i codes) (drop from values)) ≡ buffer
+  pub profile-bytes : from + n ≤ length values → length (lentBytes n values from) ≡ n * 2
+  profile-bytes room =
+      let full = length-take-le n (drop from values) (simp length-drop (omega arith)) in
+      rw (part-of from n values) (omega (arith, length-bytes (take n (drop from values))))
+
+  pub profiles-done : length codes ≤ i → profilesOf n (drop i codes) (drop from values) ≡ []
   unfolding profilesOf
   profiles-done h = rw (drop-of-length-le codes h)
 
@@ -56,9 +53,7 @@ pub file-stored : (codes values buffer : List ℕ) {headed after : List ℕ} →
     after ≡ sets headed 6 (profilesOf 864 codes values) →
     after ≡ written codes values ++ drop (length (written codes values)) buffer
 unfolding written bytesOf
-file-stored codes values buffer room eh ea =
-    let all : 0 + length (written codes values) ≡ length (written codes values) = zero-add _ in
-    ea ∙ rw eh (sets-eq (written codes values) buffer 0 (rw all room) ∙ rw all)
+file-stored codes values buffer room eh ea = ea ∙ rw eh (stored-first (written codes values) buffer refl room)
 
 -- what the lent memory holds after a refusal, and after all passed
 pub keeps : {A : Type 0} {v w : Verdict} (a b : A) → v ≡ w → IsRefused v → b ≡ onPass w a b

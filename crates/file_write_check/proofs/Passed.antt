@@ -7,7 +7,7 @@ use lib.ListN.{length}
 use borrow.Author.Tests.{leb-true, eqb-true, le-leb, eq-eqb}
 use Rattle.refusal.specs.declared.Refusal.the-variants.{WrongLength}
 use Rattle.refusal.specs.declared.Verdict.the-variants.{Pass, Refused}
-use Rattle.refusal.proofs.Questions.{ask-yes, ask-not, ask-passed, then-first, then-next, room-passed, both}
+use Rattle.refusal.proofs.Questions.{ask-yes, refuses, ask-passed, then-first, then-next, room-passed, both}
 use Rattle.file_layout.specs.Header.{layoutOf}
 use Rattle.file_values.specs.Values.{valuesQuestion}
 use Rattle.file_check.specs.Check.{codesQuestion}
@@ -32,9 +32,9 @@ unfolding amountQuestion
 amount-passes codes values a =
     ask-yes WrongLength (rw (le-leb _ _ (a .some), le-leb _ _ (a .most), eq-eqb _ _ (a .each)))
 
-pub amount-refused : (codes values : List ℕ) → (Amounts codes values → ⊥) → amountQuestion codes values ≡ Refused WrongLength
+pub amount-refused : (codes values : List ℕ) → (Amounts codes values → ⊥) → Refused WrongLength ≡ amountQuestion codes values
 unfolding amountQuestion
-amount-refused codes values never = ask-not _ WrongLength (λ h. never (amounts codes values (ask-yes WrongLength h)))
+amount-refused codes values never = refuses _ WrongLength (λ h. never (amounts codes values h))
 
 -- all of writing's questions passed
 pub record Writable (codes values : List ℕ) (room : ℕ) : Type 0 where

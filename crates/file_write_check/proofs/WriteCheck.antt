@@ -9,7 +9,8 @@ use lib.ListN.{length, getD}
 use Rattle.big_endian.specs.BigEndian.{byteAt, bytesOf}
 use Rattle.refusal.specs.declared.Verdict.{Verdict}
 use Rattle.refusal.specs.declared.Refusal.the-variants.{BadCode}
-use Rattle.refusal.specs.Questions.{ask, askEach}
+use Rattle.refusal.specs.Questions.{ask}
+use Rattle.refusal.proofs.Questions.{Asking}
 use Rattle.file_layout.specs.Header.{layoutOf}
 use Rattle.file_check.specs.Check.{codeQuestion, codesQuestion}
 use Rattle.file_written.specs.Written.{written}
@@ -19,12 +20,11 @@ use Rattle.file_written.proofs.Written.{code-at}
 abbrev pub fileCode : List ℕ → List ℕ → ℕ → Verdict
 fileCode codes values at = codeQuestion (layoutOf (written codes values)) (written codes values) at
 
--- the reader's questions 4 and 5 go over as many profiles as there are codes
+-- it is asked of as many profiles as there are codes
 pub codes-each : (codes values : List ℕ) →
-    askEach (fileCode codes values) 1729 (length codes) 6
-    ≡ codesQuestion (layoutOf (written codes values)) (written codes values)
+    Asking (fileCode codes values) 1729 (length codes) 6 (codesQuestion (layoutOf (written codes values)) (written codes values))
 unfolding layoutOf written bytesOf
-codes-each codes values = refl
+codes-each codes values = record { asked = refl }
 
 -- question 4 of code i, after the code before it
 pub code-asked : (codes values : List ℕ) → length values ≡ length codes * 864 → (i before : ℕ) → i < length codes →

@@ -11,6 +11,7 @@ use Rattle.big_endian.specs.BigEndian.{wordAt, wordsFrom, bytesOf}
 use Rattle.refusal.specs.declared.Refusal.the-variants.{BadValue}
 use Rattle.refusal.specs.declared.Verdict.{Verdict}
 use Rattle.refusal.specs.Questions.{ask, askEach}
+use Rattle.refusal.proofs.Questions.{Asking}
 use Rattle.file_layout.specs.Header.{layoutOf}
 use Rattle.file_values.specs.Values.{valueQuestion, profileValuesQuestion, valuesQuestion}
 use Rattle.file_written.specs.Written.{written}
@@ -30,11 +31,11 @@ value-asked file values first stand i h at e =
 abbrev pub fileValues : List ℕ → List ℕ → ℕ → Verdict
 fileValues codes values at = profileValuesQuestion (layoutOf (written codes values)) (written codes values) at
 
+-- it is asked of as many profiles as there are codes
 pub values-each : (codes values : List ℕ) →
-    askEach (fileValues codes values) 1729 (length codes) 6
-    ≡ valuesQuestion (layoutOf (written codes values)) (written codes values)
+    Asking (fileValues codes values) 1729 (length codes) 6 (valuesQuestion (layoutOf (written codes values)) (written codes values))
 unfolding layoutOf written bytesOf
-values-each codes values = refl
+values-each codes values = record { asked = refl }
 
 -- question 5 of the part of the values that is profile i's
 pub part-asked : (codes values : List ℕ) → length values ≡ length codes * 864 → (i : ℕ) → i < length codes → (from at : ℕ) →

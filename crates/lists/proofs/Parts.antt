@@ -1,9 +1,11 @@
--- What goes with a list's parts: `map`, and a limit of every member. By induction over the list. Assumes nothing.
+-- What goes with a list's parts: `map`, a limit of every member, and the first entry. By induction over the list. Assumes nothing.
 use mathlib.Core.Path.{_≡_, refl, ap}
 use mathlib.Core.List.{List, [], _∷_, _++_, map, map-append}
-use Prim.Native.Nat.{ℕ, zero, suc, _≤_}
+use Prim.Native.Nat.{ℕ, zero, suc, _+_, _≤_, _<_}
+use native.Mathlib.Numerals.{add-one}
 use native.Mathlib.Omega.{arith}
-use lib.ListN.{take, drop, getD}
+use lib.ListN.{length, take, drop, getD}
+use lib.Seq.{drop-cons}
 
 module _ {A B : Type 0} (f : A → B) where
   pub map-take : (n : ℕ) (xs : List A) → map f (take n xs) ≡ take n (map f xs)
@@ -25,3 +27,7 @@ take-small zero limit xs h i = omega arith
 take-small (suc n) limit [] h i = omega arith
 take-small (suc n) limit (x ∷ xs) h zero = h 0
 take-small (suc n) limit (x ∷ xs) h (suc i) = take-small n limit xs (λ j. h (suc j)) i
+
+-- what is left of a list from place i on begins with its entry i
+pub drop-next : (xs : List ℕ) (i : ℕ) → i < length xs → drop i xs ≡ getD xs i 0 ∷ drop (i + 1) xs
+drop-next xs i h = rw (add-one i) (drop-cons xs i 0 h)

@@ -1,13 +1,14 @@
 -- Places at a stride: the arithmetic of n * k where n strides of k are left, and the laws of `eachFrom`, by induction over the number
 -- of places. Assumes nothing.
-use mathlib.Core.Path.{_≡_, refl, _∙_, ap}
+use mathlib.Core.Path.{_≡_, refl, ap}
 use mathlib.Core.List.{List, [], _∷_, _++_}
 use Prim.Native.Nat.{ℕ, zero, suc, _+_, _-_, _*_, _≤_, _<_, min}
-use native.Mathlib.Nat.{zero-add, suc-mul, zero-min, min-zero, suc-min-suc}
+use native.Mathlib.Nat.{suc-mul, zero-min, min-zero, suc-min-suc}
 use native.Mathlib.Omega.{arith}
 use lib.ListN.{length, take, drop, getD}
-use lib.Seq.{sets, sets-eq}
+use lib.Seq.{sets}
 use Rattle.lists.specs.Lists.{eachFrom}
+use Rattle.lists.proofs.Stores.{stored-first}
 
 -- one stride taken from n
 pub stride : (n k : ℕ) → 0 < n → n * k ≡ (n - 1) * k + k
@@ -15,6 +16,21 @@ stride zero k h = absurd (omega arith)
 stride (suc n) k h =
     let e : suc n - 1 ≡ n = omega arith in
     rw e (suc-mul n k)
+
+-- n strides are left, from `at` to `end`
+pub record Ahead (step n at end : ℕ) : Type 0 where
+  pub ends : at + n * step ≡ end
+
+module _ {step n at end : ℕ} (ahead : Ahead step n at end) where
+  -- the next stride lies before the end, and behind it one less is left
+  pub next-inside : 0 < n → at + step ≤ end
+  next-inside h = omega (arith, stride n step h)
+
+  pub one-less : 0 < n → Ahead step (n - 1) (at + step) end
+  one-less h = record { ends = omega (arith, stride n step h) }
+
+  pub none-ahead : n ≤ 0 → at ≡ end
+  none-ahead h = let e : n ≡ 0 = omega arith in omega (arith, rw e at (ahead .ends))
 
 -- the first place, and those after it
 here : (at k : ℕ) → at + zero * k ≡ at
@@ -57,8 +73,7 @@ module _ {A : Type 0} (f : ℕ → A) (step : ℕ) where
 
   -- what stands at the places, stored from the start of a table on
   pub stored-places : (table : List A) (n at : ℕ) → n ≤ length table → sets table 0 (eachFrom f step n at) ≡ eachFrom f step n at ++ drop n table
-  stored-places table n at h =
-      sets-eq (eachFrom f step n at) table 0 (omega (arith, length-places n at)) ∙ (rw (length-places n at, zero-add))
+  stored-places table n at h = stored-first (eachFrom f step n at) table (length-places n at) h
 
   -- the same stands at as many other places, from `there` on
   pub places-agree : (g : ℕ → A) (n at there : ℕ) → ((i : ℕ) → i < n → f (at + i * step) ≡ g (there + i * step)) →

@@ -46,10 +46,14 @@ pub ask-no : {b : Bool} (r : Refusal) → b ≡ false → ask b r ≡ Refused r
 unfolding ask
 ask-no r h = rw h
 
-pub ask-not : (b : Bool) (r : Refusal) → (b ≡ true → ⊥) → ask b r ≡ Refused r
-unfolding ask
-ask-not true r never = absurd (never refl)
-ask-not false r never = refl
+-- a test that cannot hold does not
+pub fails : (b : Bool) → (b ≡ true → ⊥) → b ≡ false
+fails true never = absurd (never refl)
+fails false never = refl
+
+-- a question that cannot pass is answered by its refusal
+pub refuses : (b : Bool) (r : Refusal) → (ask b r ≡ Pass → ⊥) → Refused r ≡ ask b r
+refuses b r never = sym (ask-no r (fails b (λ h. never (ask-yes r h))))
 
 -- One question after the other.
 pub then-pass : {v : Verdict} (next : Verdict) → v ≡ Pass → (v then next) ≡ next
@@ -95,30 +99,33 @@ pub on-refused : {A : Type 0} (v : Verdict) (a b : A) → IsRefused v → onPass
 on-refused Pass a b h = passed-not-refused h
 on-refused (Refused r) a b h = refl
 
--- A check asks `askEach question step n at` by turns: what is left to ask is all that counts.
-module _ (question : ℕ → Verdict) (step : ℕ) where
-  turn : (n at : ℕ) → 0 < n → askEach question step n at ≡ (question at then askEach question step (n - 1) (at + step))
-  unfolding askEach
-  turn zero at h = absurd (omega arith)
-  turn (suc n) at h =
-      let e : n ≡ suc n - 1 = omega arith in
-      ap (λ (m : ℕ). question at then askEach question step m (at + step)) e
+-- A loop asks the n questions that are left, from `at` on, and answers `whole`: what is left to ask is all that counts.
+pub record Asking (question : ℕ → Verdict) (step n at : ℕ) (whole : Verdict) : Type 0 where
+  pub asked : askEach question step n at ≡ whole
 
-  -- no place is left
-  pub each-done : (n at : ℕ) → n ≤ 0 → askEach question step n at ≡ Pass
+module _ {question : ℕ → Verdict} {step n at : ℕ} {whole : Verdict} (loop : Asking question step n at whole) where
+  turn : 0 < n → (question at then askEach question step (n - 1) (at + step)) ≡ whole
   unfolding askEach
-  each-done zero at h = refl
-  each-done (suc n) at h = absurd (omega arith)
-
-  -- the question passed at this place
-  pub each-next : (n at : ℕ) → 0 < n → question at ≡ Pass → askEach question step n at ≡ askEach question step (n - 1) (at + step)
-  each-next n at h p = turn n at h ∙ then-pass (askEach question step (n - 1) (at + step)) p
+  turn h =
+      let e : n ≡ suc (n - 1) = omega arith in
+      rw e at (loop .asked)
 
   -- the question did not pass at this place
-  pub each-refused : (n at : ℕ) {v : Verdict} → 0 < n → v ≡ question at → IsRefused v → askEach question step n at ≡ v
-  each-refused n at {v} h e t =
-      turn n at h ∙ (rw (← e) (then-refused v (askEach question step (n - 1) (at + step)) t))
+  pub refused-here : {v : Verdict} → 0 < n → v ≡ question at → IsRefused v → v ≡ whole
+  refused-here h e t = stops _ e t ∙ turn h
 
+  -- the question passed at this place
+  pub passed-here : {v : Verdict} → 0 < n → v ≡ question at → v ≡ Pass → Asking question step (n - 1) (at + step) whole
+  passed-here h e p = record { asked = sym (then-pass _ (sym e ∙ p)) ∙ turn h }
+
+  -- no place is left
+  pub all-passed : n ≤ 0 → Pass ≡ whole
+  unfolding askEach
+  all-passed h =
+      let e : n ≡ 0 = omega arith in
+      rw e at (loop .asked)
+
+module _ (question : ℕ → Verdict) (step : ℕ) where
   -- the question passes at each of the n places
   pub each-pass : (n at : ℕ) → ((k : ℕ) → k < n → question (at + k * step) ≡ Pass) → askEach question step n at ≡ Pass
   unfolding askEach

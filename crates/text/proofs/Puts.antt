@@ -1,6 +1,6 @@
 -- A text put behind another is the two put as one. Where the page has room, a text is put by its stores.
 -- Assumes nothing.
-use mathlib.Core.Path.{_≡_, sym, _∙_, ap}
+use mathlib.Core.Path.{_≡_, refl, sym, _∙_, ap}
 use mathlib.Core.List.{List, _++_}
 use Prim.Native.Nat.{ℕ, _+_, _≤_}
 use native.Mathlib.Omega.{arith}
@@ -12,10 +12,10 @@ use Rattle.text.specs.Inside.{Put}
 module _ {text before after : List ℕ} {at r : ℕ} (room : at + length text ≤ length before) where
   -- stores put a text, and a text is put by its stores
   pub put-sets : after ≡ sets before at text → r ≡ at + length text → Put text before at r after
-  put-sets e b = record { page = e ∙ stored text before at room; behind = b }
+  put-sets e b = record { page = e ∙ stored text before at refl room; behind = b }
 
   pub sets-put : Put text before at r after → after ≡ sets before at text
-  sets-put p = p .page ∙ sym (stored text before at room)
+  sets-put p = p .page ∙ sym (stored text before at refl room)
 
 pub put-length : {text before after : List ℕ} {at r : ℕ} → Put text before at r after → at + length text ≤ length before →
     length after ≡ length before

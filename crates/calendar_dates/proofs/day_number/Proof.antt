@@ -27,11 +27,16 @@ sub-result : tie.Need-sub-result
 sub-result c = omega (arith, c .day-of-year .ensures, day-of-year-range (c .before .before .args .d) (c .before .before .pre))
 
 add-result-3 : tie.Need-add-result-3
-add-result-3 c = omega (arith, c .day-of-year .ensures, parts (c .before .before .args .d) (c .before .before .pre), day-of-year-range (c .before .before .args .d) (c .before .before .pre), leap-small (c .before .before .args .d .year))
+add-result-3 c =
+    let d = c .before .before .args .d in
+    let real = c .before .before .pre in
+    omega (arith, c .day-of-year .ensures, parts d real, day-of-year-range d real, leap-small (d .year))
 
 returns : tie.Need-returns
 unfolding dayNumber
-returns c = omega (arith, c .day-of-year .ensures, parts (c .before .before .args .d) (c .before .before .pre), years-closed (c .before .before .args .d .year - 1996))
+returns c =
+    let d = c .before .before .args .d in
+    omega (arith, c .day-of-year .ensures, parts d (c .before .before .pre), years-closed (d .year - 1996))
 
 pub day-number-spec : {M : Type 1} → statement M
 day-number-spec =

@@ -15,19 +15,25 @@ add-t4 : tie.Need-add-t4
 add-t4 c = search needs
 
 returns : tie.Need-returns
-returns c = let l = c .before .before .before .month-length in sym (is-same-month (c .before .before .before .before .args .d) (l .result) (l .ensures) (c .before .if1 .taken))
+returns c =
+    let called = c .before .before .before in
+    sym (is-same-month (called .before .args .d) _ (called .month-length .ensures) (omega arith))
 
 add-t5 : tie.Need-add-t5
 add-t5 c = search needs
 
 returns-2 : tie.Need-returns-2
-returns-2 c = let l = c .before .before .before .before .before .month-length in sym (is-next-month (c .before .before .before .before .before .before .args .d) (l .result) (l .ensures) (c .before .before .before .if1 .left) (c .before .if2 .taken))
+returns-2 c =
+    let called = c .before .before .before .before .before in
+    sym (is-next-month (called .before .args .d) _ (called .month-length .ensures) (omega arith) (omega arith))
 
 add-t2 : tie.Need-add-t2
-add-t2 c = omega (arith, parts (c .before .before .before .before .before .before .args .d) (c .before .before .before .before .before .before .pre))
+add-t2 c = let start = c .before .before .before .before .before .before in omega (arith, parts (start .args .d) (start .pre))
 
 returns-3 : tie.Need-returns-3
-returns-3 c = let l = c .before .before .before .before .before .month-length in sym (is-next-year (c .before .before .before .before .before .before .args .d) (l .result) (l .ensures) (c .before .before .before .if1 .left) (c .before .if2 .left))
+returns-3 c =
+    let called = c .before .before .before .before .before in
+    sym (is-next-year (called .before .args .d) _ (called .month-length .ensures) (omega arith) (omega arith))
 
 pub next-day-spec : {M : Type 1} → statement M
 next-day-spec =

@@ -17,11 +17,16 @@ returns c = simp (sym (c .before .is-last-sunday .ensures) ∙ not-true _ (c .if
 
 returns-2 : tie.Need-returns-2
 unfolding clock
-returns-2 c = rw (eq-eqb _ _ (c .if2 .taken), sym (c .before .before .before .is-last-sunday .ensures) ∙ not-false _ (c .before .before .if1 .left))
+returns-2 c =
+    let asked = c .before .before .before in
+    rw (eq-eqb _ _ (c .if2 .taken), sym (asked .is-last-sunday .ensures) ∙ not-false _ (c .before .before .if1 .left))
 
 returns-3 : tie.Need-returns-3
 unfolding clock
-returns-3 c = rw (ne-eqb _ _ (c .before .before .if2 .left), eq-eqb _ _ (c .if3 .taken), sym (c .before .before .before .before .before .is-last-sunday .ensures) ∙ not-false _ (c .before .before .before .before .if1 .left))
+returns-3 c =
+    let other = c .before .before in
+    let asked = other .before .before .before in
+    rw (ne-eqb _ _ (other .if2 .left), eq-eqb _ _ (c .if3 .taken), sym (asked .is-last-sunday .ensures) ∙ not-false _ (other .before .before .if1 .left))
 
 returns-4 : tie.Need-returns-4
 unfolding clock

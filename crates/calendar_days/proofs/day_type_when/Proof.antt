@@ -19,23 +19,54 @@ returns c = rw (← (c .before .before .before .pre .1), eq-eqb _ _ (c .if1 .tak
 
 returns-2 : tie.Need-returns-2
 unfolding dayTypeWhen
-returns-2 c = rw (← (c .before .before .before .before .pre .1), ne-eqb _ _ (c .before .if1 .left), eq-eqb _ _ (c .if2 .taken))
+returns-2 c =
+    let first = c .before in
+    rw (← (first .before .before .before .pre .1), ne-eqb _ _ (first .if1 .left), eq-eqb _ _ (c .if2 .taken))
 
 returns-3 : tie.Need-returns-3
 unfolding dayTypeWhen
-returns-3 c = rw (← (c .before .before .before .before .before .pre .1), ne-eqb _ _ (c .before .before .if1 .left), ne-eqb _ _ (c .before .if2 .left), eq-eqb _ _ (c .if3 .taken))
+returns-3 c =
+    let second = c .before in
+    let first = second .before in
+    rw (← (first .before .before .before .pre .1), ne-eqb _ _ (first .if1 .left), ne-eqb _ _ (second .if2 .left), eq-eqb _ _ (c .if3 .taken))
 
 returns-4 : tie.Need-returns-4
 unfolding dayTypeWhen
-returns-4 c = rw (← (c .before .before .before .before .before .before .pre .1), ne-eqb _ _ (c .before .before .before .if1 .left), ne-eqb _ _ (c .before .before .if2 .left), ne-eqb _ _ (c .before .if3 .left), c .if4 .taken)
+returns-4 c =
+    let third = c .before in
+    let second = third .before in
+    let first = second .before in
+    rw (← (first .before .before .before .pre .1), ne-eqb _ _ (first .if1 .left), ne-eqb _ _ (second .if2 .left), ne-eqb _ _ (third .if3 .left), c .if4 .taken)
 
 returns-5 : tie.Need-returns-5
 unfolding dayTypeWhen
-returns-5 c = rw (← (c .before .before .before .before .before .before .before .pre .1), ne-eqb _ _ (c .before .before .before .before .if1 .left), ne-eqb _ _ (c .before .before .before .if2 .left), ne-eqb _ _ (c .before .before .if3 .left), c .before .if4 .left, eq-eqb _ _ (c .if5 .taken))
+returns-5 c =
+    let third = c .before .before in
+    let second = third .before in
+    let first = second .before in
+    rw (
+      ← (first .before .before .before .pre .1),
+      ne-eqb _ _ (first .if1 .left),
+      ne-eqb _ _ (second .if2 .left),
+      ne-eqb _ _ (third .if3 .left),
+      c .before .if4 .left,
+      eq-eqb _ _ (c .if5 .taken),
+    )
 
 returns-6 : tie.Need-returns-6
 unfolding dayTypeWhen
-returns-6 c = rw (← (c .before .before .before .before .before .before .before .pre .1), ne-eqb _ _ (c .before .before .before .before .if1 .left), ne-eqb _ _ (c .before .before .before .if2 .left), ne-eqb _ _ (c .before .before .if3 .left), c .before .if4 .left, ne-eqb _ _ (c .if5 .left))
+returns-6 c =
+    let third = c .before .before in
+    let second = third .before in
+    let first = second .before in
+    rw (
+      ← (first .before .before .before .pre .1),
+      ne-eqb _ _ (first .if1 .left),
+      ne-eqb _ _ (second .if2 .left),
+      ne-eqb _ _ (third .if3 .left),
+      c .before .if4 .left,
+      ne-eqb _ _ (c .if5 .left),
+    )
 
 pub day-type-when-spec : {M : Type 1} → statement M
 day-type-when-spec =

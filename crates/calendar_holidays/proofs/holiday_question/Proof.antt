@@ -1,14 +1,21 @@
 -- `calendar_holidays::holiday_question` meets its contract: each `return` rewrites with the tests that led there.
 -- Assumes nothing.
-use mathlib.Core.Path.{sym}
+use mathlib.Core.Path.{_≡_, sym}
+use mathlib.Core.Bool.{Bool}
 use lib.ListN.{getD}
 use borrow.Author.Tests.{lt-ltb, le-ltb, eq-eqb, ne-eqb, not-true, not-false}
 use borrow.Author.Needs.{needs}
 use Rattle.refusal.proofs.Questions.{ask-yes, ask-no}
+use Rattle.calendar_dates.specs.Dates.{dateOf, isDate}
 use Rattle.calendar_dates.proofs.Dates.{checked}
 use Rattle.calendar_holidays.specs.Holidays.{holidayQuestion}
 use Rattle.calendar_holidays.proofs.holiday_question.Statement.{statement}
 use Rattle.calendar_holidays.proofs.holiday_question.Tie as tie
+
+-- the answer on the date is that on the entry's
+entry : (c : tie.After-is-date) {b : Bool} → c .is-date .result ≡ b →
+    let start = c .before .before .before .before .before in isDate (dateOf (getD (start .args .holidays .now) (start .args .index) 0)) ≡ b
+entry c t = checked _ (c .before .date-of .ensures) (c .is-date .ensures) t
 
 returns : tie.Need-returns
 unfolding holidayQuestion
@@ -28,7 +35,9 @@ is-date-requires c κs = search needs
 
 returns-2 : tie.Need-returns-2
 unfolding holidayQuestion
-returns-2 c = sym (ask-no _ (rw (lt-ltb _ _ (c .before .before .before .before .if1 .left), checked (getD (c .before .before .before .before .before .before .args .holidays .now) (c .before .before .before .before .before .before .args .index) 0) (c .before .before .date-of .ensures) (c .before .is-date .ensures) (not-true _ (c .if2 .taken)))))
+returns-2 c =
+    let asked = c .before in
+    sym (ask-no _ (rw (lt-ltb _ _ (asked .before .before .before .if1 .left), entry asked (not-true _ (c .if2 .taken)))))
 
 mul-if4 : tie.Need-mul-if4
 mul-if4 c = search needs
@@ -47,15 +56,26 @@ shared-slice-read-if4-2 c = search needs
 
 returns-3 : tie.Need-returns-3
 unfolding holidayQuestion
-returns-3 c = sym (ask-no _ (rw (lt-ltb _ _ (c .before .before .before .before .before .before .before .before .if1 .left), checked (getD (c .before .before .before .before .before .before .before .before .before .before .args .holidays .now) (c .before .before .before .before .before .before .before .before .before .before .args .index) 0) (c .before .before .before .before .before .before .date-of .ensures) (c .before .before .before .before .before .is-date .ensures) (not-false _ (c .before .before .before .before .if2 .left)), ne-eqb _ _ (c .before .before .before .if3 .taken), le-ltb _ _ (c .if4 .taken))))
+returns-3 c =
+    let other = c .before .before .before in
+    let asked = other .before .before in
+    let real = entry asked (not-false _ (other .before .if2 .left)) in
+    sym (ask-no _ (rw (lt-ltb _ _ (asked .before .before .before .if1 .left), real, ne-eqb _ _ (other .if3 .taken), le-ltb _ _ (c .if4 .taken))))
 
 returns-4 : tie.Need-returns-4
 unfolding holidayQuestion
-returns-4 c = sym (ask-yes _ (rw (lt-ltb _ _ (c .before .before .before .before .before .before .before .before .if1 .left), checked (getD (c .before .before .before .before .before .before .before .before .before .before .args .holidays .now) (c .before .before .before .before .before .before .before .before .before .before .args .index) 0) (c .before .before .before .before .before .before .date-of .ensures) (c .before .before .before .before .before .is-date .ensures) (not-false _ (c .before .before .before .before .if2 .left)), ne-eqb _ _ (c .before .before .before .if3 .taken), lt-ltb _ _ (c .if4 .left))))
+returns-4 c =
+    let other = c .before .before .before in
+    let asked = other .before .before in
+    let real = entry asked (not-false _ (other .before .if2 .left)) in
+    sym (ask-yes _ (rw (lt-ltb _ _ (asked .before .before .before .if1 .left), real, ne-eqb _ _ (other .if3 .taken), lt-ltb _ _ (c .if4 .left))))
 
 returns-5 : tie.Need-returns-5
 unfolding holidayQuestion
-returns-5 c = sym (ask-yes _ (rw (lt-ltb _ _ (c .before .before .before .before .before .if1 .left), checked (getD (c .before .before .before .before .before .before .before .args .holidays .now) (c .before .before .before .before .before .before .before .args .index) 0) (c .before .before .before .date-of .ensures) (c .before .before .is-date .ensures) (not-false _ (c .before .if2 .left)), eq-eqb _ _ (c .if3 .left))))
+returns-5 c =
+    let asked = c .before .before in
+    let real = entry asked (not-false _ (c .before .if2 .left)) in
+    sym (ask-yes _ (rw (lt-ltb _ _ (asked .before .before .before .if1 .left), real, eq-eqb _ _ (c .if3 .left))))
 
 pub holiday-question-spec : {M : Type 1} → statement M
 holiday-question-spec =

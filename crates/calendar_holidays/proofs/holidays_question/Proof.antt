@@ -1,25 +1,25 @@
 -- `calendar_holidays::holidays_question` meets its contract: what is left to ask is all that counts.
 -- Assumes nothing.
-use mathlib.Core.Path.{_≡_, refl, sym, _∙_}
+use mathlib.Core.Path.{_≡_, refl}
 use Prim.Native.Nat.{_+_}
 use native.Mathlib.Omega.{arith}
 use lib.ListN.{length}
 use borrow.Author.Needs.{needs}
-use Rattle.refusal.specs.Questions.{askEach}
-use Rattle.refusal.proofs.Questions.{passed, each-done, each-next, each-refused}
+use Rattle.refusal.proofs.Questions.{Asking, refused-here, passed-here, all-passed}
 use Rattle.calendar_holidays.specs.Holidays.{holidayQuestion, holidaysQuestion}
 use Rattle.calendar_holidays.proofs.holidays_question.Statement.{statement}
 use Rattle.calendar_holidays.proofs.holidays_question.Tie as tie
 
 abbrev Inv-loop : tie.InvT-loop
-Inv-loop holidays left₀ at₀ left at = (at + left ≡ length holidays) × (holidaysQuestion holidays ≡ askEach (holidayQuestion holidays) 1 left at)
+Inv-loop holidays left₀ at₀ left at =
+    Asking (holidayQuestion holidays) 1 left at (holidaysQuestion holidays) × (at + left ≡ length holidays)
 
 abbrev μ-loop : tie.MeasureT-loop
 μ-loop holidays left₀ at₀ left at = left
 
 loop-holds : tie.Need-loop-holds Inv-loop μ-loop
 unfolding holidaysQuestion
-loop-holds c = (omega arith, refl)
+loop-holds c = (record { asked = refl }, omega arith)
 
 holiday-question-requires : tie.Need-holiday-question-requires Inv-loop μ-loop
 holiday-question-requires c κs = omega arith
@@ -31,7 +31,9 @@ enum-told-2 : tie.Need-enum-told-2 Inv-loop μ-loop
 enum-told-2 c = search needs
 
 returns : tie.Need-returns Inv-loop μ-loop
-returns c = sym (c .before .before .before .before .loop .inv .1 ∙ each-refused (holidayQuestion (c .before .before .before .before .before .before .args .holidays .now)) 1 (c .before .before .before .before .loop .left) (c .before .before .before .before .loop .at) (omega arith) (c .before .before .holiday-question .ensures) (c .before .match .keys2))
+returns c =
+    let l = c .before .before .before .before .loop in
+    refused-here (l .inv .0) (omega arith) (c .before .before .holiday-question .ensures) (search needs)
 
 add-at : tie.Need-add-at Inv-loop μ-loop
 add-at c = omega arith
@@ -43,10 +45,12 @@ loop-less : tie.Need-loop-less Inv-loop μ-loop
 loop-less c = omega arith
 
 loop-again : tie.Need-loop-again Inv-loop μ-loop
-loop-again c = (omega arith, c .before .before .before .before .loop .inv .1 ∙ each-next (holidayQuestion (c .before .before .before .before .before .before .args .holidays .now)) 1 (c .before .before .before .before .loop .left) (c .before .before .before .before .loop .at) (omega arith) (sym (c .before .before .holiday-question .ensures) ∙ passed (c .before .before .holiday-question .result) (c .before .match .keys1)))
+loop-again c =
+    let l = c .before .before .before .before .loop in
+    (passed-here (l .inv .0) (omega arith) (c .before .before .holiday-question .ensures) (c .enum-told .given .1), omega arith)
 
 returns-2 : tie.Need-returns-2 Inv-loop μ-loop
-returns-2 c = sym (c .before .loop .inv .1 ∙ each-done (holidayQuestion (c .before .before .before .args .holidays .now)) 1 (c .before .loop .left) (c .before .loop .at) (omega arith))
+returns-2 c = all-passed (c .before .loop .inv .0) (omega arith)
 
 pub holidays-question-spec : {M : Type 1} → statement M
 holidays-question-spec =

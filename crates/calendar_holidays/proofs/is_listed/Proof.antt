@@ -43,7 +43,9 @@ shared-slice-read-if1 : tie.Need-shared-slice-read-if1 Inv-loop μ-loop
 shared-slice-read-if1 c = omega arith
 
 returns : tie.Need-returns Inv-loop μ-loop
-returns c = sym (c .before .before .before .loop .inv .1 ∙ here (c .before .before .before .before .args .date) (c .before .before .before .before .args .holidays .now) (c .before .before .before .loop .i) (omega arith) (c .if1 .taken))
+returns c =
+    let l = c .before .before .before .loop in
+    sym (l .inv .1 ∙ here _ _ (l .i) (omega arith) (c .if1 .taken))
 
 add-i : tie.Need-add-i Inv-loop μ-loop
 add-i c = omega arith
@@ -52,10 +54,12 @@ loop-less : tie.Need-loop-less Inv-loop μ-loop
 loop-less c = omega arith
 
 loop-again : tie.Need-loop-again Inv-loop μ-loop
-loop-again c = (omega arith, c .before .before .before .loop .inv .1 ∙ later (c .before .before .before .before .args .date) (c .before .before .before .before .args .holidays .now) (c .before .before .before .loop .i) (omega arith) (c .if1 .left))
+loop-again c =
+    let l = c .before .before .before .loop in
+    (omega arith, l .inv .1 ∙ later _ _ (l .i) (omega arith) (c .if1 .left))
 
 returns-2 : tie.Need-returns-2 Inv-loop μ-loop
-returns-2 c = sym (c .before .loop .inv .1 ∙ none (c .before .before .args .date) (c .before .before .args .holidays .now) (c .before .loop .i) (omega arith))
+returns-2 c = let l = c .before .loop in sym (l .inv .1 ∙ none _ _ (l .i) (omega arith))
 
 pub is-listed-spec : {M : Type 1} → statement M
 is-listed-spec =

@@ -1,7 +1,6 @@
 -- `calendar_period::count_days` meets its contract: a refusal is passed on, and after a pass the next question counts.
 -- Assumes nothing.
 use mathlib.Core.Path.{_≡_, sym, _∙_, ap}
-use mathlib.Core.Bool.{true}
 use Prim.Native.Nat.{ℕ}
 use borrow.Author.Needs.{needs}
 use Rattle.refusal.specs.declared.Verdict.the-variants.{Pass}
@@ -17,19 +16,23 @@ use Rattle.calendar_period.proofs.count_days.Statement.{statement}
 use Rattle.calendar_period.proofs.count_days.Tie as tie
 
 -- a date whose question passed
-first-passed : (c : tie.After-known-told) → (dateQuestion (c .before .before .before .before .args .first) 0 ≡ Pass) × (c .before .d .given .0 .0 ≡ dateOf (c .before .before .before .before .args .first))
+first-passed : (c : tie.After-known-told) →
+    let first = c .before .before .before .before .args .first in (dateQuestion first 0 ≡ Pass) × (c .before .d .given .0 .0 ≡ dateOf first)
 first-passed c = dated-real _ (sym (c .before .d .given .1) ∙ c .before .before .before .date-in .ensures)
 
 abbrev of-first : tie.After-known-told3 → tie.After-known-told
 of-first c = c .before .before .before .before
 
-last-passed : (c : tie.After-known-told3) → (dateQuestion (of-first c .before .before .before .before .args .last) 1 ≡ Pass) × (c .before .d2 .given .0 .0 ≡ dateOf (of-first c .before .before .before .before .args .last))
+last-passed : (c : tie.After-known-told3) →
+    let last = of-first c .before .before .before .before .args .last in (dateQuestion last 1 ≡ Pass) × (c .before .d2 .given .0 .0 ≡ dateOf last)
 last-passed c = dated-real _ (sym (c .before .d2 .given .1) ∙ c .before .before .before .date-in2 .ensures)
 
 -- where both dates passed, question 8 is the answer
 asked : (first last : ℕ) {a b : Date} {r : Counted} → dateQuestion first 0 ≡ Pass → dateQuestion last 1 ≡ Pass → a ≡ dateOf first → b ≡ dateOf last →
     r ≡ countedBy (periodQuestion a b) (periodDays a b) → r ≡ countedBy (periodCheck first last) (periodDays (dateOf first) (dateOf last))
-asked first last p q e f h = h ∙ rw (e, f) (sym (rw (then-pass (dateQuestion last 1 then periodQuestion (dateOf first) (dateOf last)) p, then-pass (periodQuestion (dateOf first) (dateOf last)) q)))
+asked first last p q e f h =
+    let question = periodQuestion (dateOf first) (dateOf last) in
+    h ∙ rw (e, f) (sym (rw (then-pass (dateQuestion last 1 then question) p, then-pass question q)))
 
 date-in-requires : tie.Need-date-in-requires
 date-in-requires c κs = search needs

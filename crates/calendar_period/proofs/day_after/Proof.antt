@@ -42,10 +42,12 @@ module _ (day : CalendarDay) (p : isDate (day .date) ≡ true) (e : day ≡ cale
       let years : daysOfYears (nextDay (day .date) .year - 1996) ≡ daysOfYears (day .date .year - 1996) = ap (λ (y : ℕ). daysOfYears (y - 1996)) (same .0) in
       omega (arith, ap (λ (x : CalendarDay). x .t) e, next-day-counts (day .date) p .counts, parts (day .date) p)
 
-  made : {next : Date} {t : ℕ} → next ≡ nextDay (day .date) → t ≡ dayOfYear (nextDay (day .date)) → _≡_ {A = CalendarDay} (record { date = next; weekday = day .weekday % 7 + 1; t = t }) (calendarDay (nextDay (day .date)))
+  made : {next : Date} {t : ℕ} → next ≡ nextDay (day .date) → t ≡ dayOfYear (nextDay (day .date)) →
+      _≡_ {A = CalendarDay} (record { date = next; weekday = day .weekday % 7 + 1; t = t }) (calendarDay (nextDay (day .date)))
   unfolding weekdayOf
   made n t =
-      let w : day .weekday % 7 + 1 ≡ dayNumber (nextDay (day .date)) % 7 + 1 = omega (arith, ap (λ (x : CalendarDay). x .weekday) e, next-day-counts (day .date) p .counts) in
+      let w : day .weekday % 7 + 1 ≡ dayNumber (nextDay (day .date)) % 7 + 1 =
+      omega (arith, ap (λ (x : CalendarDay). x .weekday) e, next-day-counts (day .date) p .counts) in
       rw (n, t, w)
 
 next-day-requires : tie.Need-next-day-requires
@@ -64,7 +66,8 @@ returns c =
 add-t4 : tie.Need-add-t4
 add-t4 c =
     let start = c .before .before .before .before .before in
-    omega (arith, ap (λ (x : CalendarDay). x .t) (start .pre .1), day-of-year-range (start .args .day .date) (start .pre .0), leap-small (start .args .day .date .year))
+    let d = start .args .day .date in
+    omega (arith, ap (λ (x : CalendarDay). x .t) (start .pre .1), day-of-year-range d (start .pre .0), leap-small (d .year))
 
 returns-2 : tie.Need-returns-2
 returns-2 c =

@@ -16,7 +16,9 @@ use Rattle.calendar_period.proofs.values_of_days.Statement.{statement}
 use Rattle.calendar_period.proofs.values_of_days.Tie as tie
 
 -- one day counted
-turn : (values left : ℕ) (d : Date) {next : CalendarDay} {count all : ℕ} → 0 < left → AllDates left d → values + valuesOfDays left d ≡ all → count ≡ valueCount d → next ≡ calendarDay (nextDay d) → (next ≡ calendarDay (next .date)) × AllDates (left - 1) (next .date) × (values + count + valuesOfDays (left - 1) (next .date) ≡ all)
+turn : (values left : ℕ) (d : Date) {next : CalendarDay} {count all : ℕ} → 0 < left → AllDates left d →
+    values + valuesOfDays left d ≡ all → count ≡ valueCount d → next ≡ calendarDay (nextDay d) →
+    (next ≡ calendarDay (next .date)) × AllDates (left - 1) (next .date) × (values + count + valuesOfDays (left - 1) (next .date) ≡ all)
 turn values left d h dates sum n e = rw e (refl, all-next left d dates, omega (arith, values-next left d h))
 
 abbrev Inv-loop : tie.InvT-loop

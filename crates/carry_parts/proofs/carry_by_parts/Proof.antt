@@ -5,7 +5,7 @@ use mathlib.Core.Path.{_≡_, refl}
 use Prim.Native.Nat.{_+_, _-_, _*_, _≤_, _<_}
 use native.Mathlib.Nat.{mul-le-mul}
 use native.Mathlib.Omega.{arith}
-use lib.ListN.{length, getD, length-set}
+use lib.ListN.{getD}
 use lib.Seq.{slice}
 use Rattle.carry_quotients.proofs.Turns.{Left, start, done}
 use Rattle.carry_parts.proofs.Parts.{scaled, sumOf, excess, quotient-of, remainder-of, first-sum, first-excess, more-excess, growth-small, total-small, turn-in-parts}
@@ -19,7 +19,6 @@ Inv-loop powers from to yearly carry out₀ at by sum₀ total₀ i₀ place₀ 
     (from ≤ i)
     × (i ≤ to)
     × (place + (to - i) ≡ at + (to - from))
-    × (length out ≡ length out₀)
     × (sum ≤ 274_877_906_944 + i * 137_438_953_472_000_000)
     × (excess sum ≤ 39_999 + i * 1_599_960_000)
     × Left (slice from to powers) yearly carry out₀ at (slice i to powers) (sumOf sum) total out place
@@ -54,7 +53,6 @@ loop-holds c =
       omega arith,
       omega arith,
       refl,
-      refl,
       omega (arith, small),
       omega (arith, excess),
       rw (first-sum carry small) (start _ _ _ _ _ small),
@@ -78,12 +76,12 @@ add-sum-2 c = let p = product c in omega arith
 sub-out : tie.Need-sub-out Inv-loop μ-loop
 sub-out c =
     let l = c .before .before .loop in
-    omega (arith, quotient-of (l .sum), l .inv .6 .quotient)
+    omega (arith, quotient-of (l .sum), l .inv .5 .quotient)
 
 cast-out : tie.Need-cast-out Inv-loop μ-loop
 cast-out c =
     let l = c .before .before .loop in
-    omega (arith, growth-small (l .sum) _ (product c), quotient-of (l .sum), l .inv .6 .quotient)
+    omega (arith, growth-small (l .sum) _ (product c), quotient-of (l .sum), l .inv .5 .quotient)
 
 mul-out : tie.Need-mul-out Inv-loop μ-loop
 mul-out c = omega arith
@@ -106,15 +104,14 @@ loop-again c =
     let a = c .before .before .before .args in
     let power = c .before .before .before .pre .0 .small (l .i) in
     let p = product c in
-    let few : excess (l .sum) + getD (a .powers .now) (l .i) 0 * 39_999 ≤ 39_999 + (l .i + 1) * 1_599_960_000 = omega (arith, l .inv .5, power) in
+    let few : excess (l .sum) + getD (a .powers .now) (l .i) 0 * 39_999 ≤ 39_999 + (l .i + 1) * 1_599_960_000 = omega (arith, l .inv .4, power) in
     let below : excess (l .sum) + getD (a .powers .now) (l .i) 0 * 39_999 < 274_877_906_944 = omega (arith, few) in (
       omega arith,
       omega arith,
       omega arith,
-      simp length-set (l .inv .3),
       omega arith,
       omega (arith, few, more-excess (l .sum) (getD (a .powers .now) (l .i) 0) (a .yearly) below),
-      turn-in-parts _ (l .i) (a .to) (l .sum) (omega arith) (omega arith) below (l .inv .6),
+      turn-in-parts _ (l .i) (a .to) (l .sum) (omega arith) (omega arith) below (l .inv .5),
     )
 
 mul-t16 : tie.Need-mul-t16 Inv-loop μ-loop
@@ -124,14 +121,14 @@ cast-t24 : tie.Need-cast-t24 Inv-loop μ-loop
 cast-t24 c = omega arith
 
 same-length : tie.Need-same-length Inv-loop μ-loop
-same-length c = c .before .loop .inv .3
+same-length c = c .before .loop .inv .5 .figuresLeft .kept
 
 returns : tie.Need-returns Inv-loop μ-loop
 returns c =
     let l = c .before .loop in
     let most : l .i ≤ 96 = omega arith in
-    let small = total-small (l .sum) most (l .inv .4) (l .inv .6 .quotient) in
-    done _ (l .i) (c .before .before .args .to) (omega arith) refl small (remainder-of (l .sum)) (l .inv .6)
+    let small = total-small (l .sum) most (l .inv .3) (l .inv .5 .quotient) in
+    done _ (l .i) (c .before .before .args .to) (omega arith) refl small (remainder-of (l .sum)) (l .inv .5)
 
 pub carry-by-parts-spec : {M : Type 1} → statement M
 carry-by-parts-spec =

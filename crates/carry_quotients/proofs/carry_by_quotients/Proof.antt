@@ -5,7 +5,7 @@ use mathlib.Core.Path.{_≡_, refl}
 use Prim.Native.Nat.{_+_, _-_, _*_, _^_, _≤_}
 use native.Mathlib.Nat.{mul-le-mul}
 use native.Mathlib.Omega.{arith}
-use lib.ListN.{length, getD, length-set}
+use lib.ListN.{getD}
 use lib.Seq.{slice}
 use Rattle.carry_quotients.proofs.Turns.{Left, start, turn, done}
 use Rattle.carry_quotients.proofs.carry_by_quotients.Reads as reads
@@ -18,7 +18,6 @@ Inv-loop powers from to yearly carry out₀ at sum₀ total₀ i₀ place₀ out
     (from ≤ i)
     × (i ≤ to)
     × (place + (to - i) ≡ at + (to - from))
-    × (length out ≡ length out₀)
     × (sum ≤ 39_999 + i * (40_000 * 10 ^ 9))
     × Left (slice from to powers) yearly carry out₀ at (slice i to powers) sum total out place
 
@@ -33,7 +32,7 @@ product c =
     mul-le-mul (small .small (c .before .before .loop .i)) (small .yearlySmall)
 
 loop-holds : tie.Need-loop-holds Inv-loop μ-loop
-loop-holds c = (omega arith, omega arith, refl, refl, omega arith, start _ _ _ _ _ (c .pre .0 .inRange))
+loop-holds c = (omega arith, omega arith, refl, omega arith, start _ _ _ _ _ (c .pre .0 .inRange))
 
 mul-sum : tie.Need-mul-sum Inv-loop μ-loop
 mul-sum c = omega arith
@@ -78,21 +77,20 @@ loop-again c =
       omega arith,
       omega arith,
       omega arith,
-      simp length-set (l .inv .3),
       omega arith,
-      turn _ (l .i) (c .before .before .before .args .to) (omega arith) (omega arith) (l .inv .5),
+      turn _ (l .i) (c .before .before .before .args .to) (omega arith) (omega arith) (l .inv .4),
     )
 
 cast-t22 : tie.Need-cast-t22 Inv-loop μ-loop
 cast-t22 c = omega arith
 
 same-length : tie.Need-same-length Inv-loop μ-loop
-same-length c = c .before .loop .inv .3
+same-length c = c .before .loop .inv .4 .figuresLeft .kept
 
 returns : tie.Need-returns Inv-loop μ-loop
 returns c =
     let l = c .before .loop in
-    done _ (l .i) (c .before .before .args .to) (omega arith) refl (omega arith) refl (l .inv .5)
+    done _ (l .i) (c .before .before .args .to) (omega arith) refl (omega arith) refl (l .inv .4)
 
 pub carry-by-quotients-spec : {M : Type 1} → statement M
 carry-by-quotients-spec =

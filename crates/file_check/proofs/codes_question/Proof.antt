@@ -1,14 +1,13 @@
 -- `file_check::codes_question` meets its contract. The loop's invariant: what is left to ask is all that counts, the profiles that are
 -- left end where the file ends, and before each code but the first one there is a profile. The measure is how many are left.
 -- Assumes nothing.
-use mathlib.Core.Path.{_≡_, refl, sym, _∙_}
-use Prim.Native.Nat.{_+_, _*_, _≤_}
+use mathlib.Core.Path.{_≡_, refl, sym}
+use Prim.Native.Nat.{_≤_}
 use native.Mathlib.Omega.{arith}
 use lib.ListN.{length}
 use borrow.Author.Needs.{needs}
-use Rattle.lists.proofs.Strides.{stride}
-use Rattle.refusal.specs.Questions.{askEach}
-use Rattle.refusal.proofs.Questions.{each-done, each-next, each-refused}
+use Rattle.lists.proofs.Strides.{Ahead, next-inside, one-less}
+use Rattle.refusal.proofs.Questions.{Asking, refused-here, passed-here, all-passed}
 use Rattle.file_layout.specs.Header.{headerLength}
 use Rattle.file_check.specs.Check.{codeQuestion, codesQuestion}
 use Rattle.file_check.proofs.codes_question.Statement.{statement}
@@ -16,8 +15,8 @@ use Rattle.file_check.proofs.codes_question.Tie as tie
 
 abbrev Inv-loop : tie.InvT-loop
 Inv-loop layout file step left₀ at₀ left at =
-    (askEach (codeQuestion layout file) step left at ≡ codesQuestion layout file)
-    × (at + left * step ≡ length file)
+    Asking (codeQuestion layout file) step left at (codesQuestion layout file)
+    × Ahead step left at (length file)
     × ((at ≡ headerLength → ⊥) → step ≤ at)
 
 abbrev μ-loop : tie.MeasureT-loop
@@ -27,14 +26,14 @@ profile-length-requires : tie.Need-profile-length-requires Inv-loop μ-loop
 profile-length-requires c κs = c .before .pre .sound
 
 loop-holds : tie.Need-loop-holds Inv-loop μ-loop
-loop-holds c = rw (c .profile-length .ensures) (refl, sym (c .before .before .pre .whole), λ n. absurd (n refl))
+loop-holds c = rw (c .profile-length .ensures) (record { asked = refl }, record { ends = sym (c .before .before .pre .whole) }, λ n. absurd (n refl))
 
 code-question-requires : tie.Need-code-question-requires Inv-loop μ-loop
 code-question-requires c κs =
     let l = c .before .loop in
     record {
       sound = c .before .before .before .before .pre .sound;
-      inside = omega (arith, stride (l .left) (c .before .before .profile-length .result) (omega arith));
+      inside = omega (arith, next-inside (l .inv .1) (omega arith));
       earlier = λ n. omega (arith, l .inv .2 n);
     }
 
@@ -47,14 +46,10 @@ enum-told-2 c = search needs
 returns : tie.Need-returns Inv-loop μ-loop
 returns c =
     let l = c .before .before .before .before .loop in
-    sym
-    (each-refused (codeQuestion _ _) _ (l .left) (l .at) (omega arith) (c .before .before .code-question .ensures) (search needs))
-    ∙ l .inv .0
+    refused-here (l .inv .0) (omega arith) (c .before .before .code-question .ensures) (search needs)
 
 add-at : tie.Need-add-at Inv-loop μ-loop
-add-at c =
-    let l = c .before .before .before .before .loop in
-    omega (arith, stride (l .left) (c .before .before .before .before .before .profile-length .result) (omega arith))
+add-at c = omega (arith, next-inside (c .before .before .before .before .loop .inv .1) (omega arith))
 
 sub-left : tie.Need-sub-left Inv-loop μ-loop
 sub-left c = omega arith
@@ -65,18 +60,13 @@ loop-less c = omega arith
 loop-again : tie.Need-loop-again Inv-loop μ-loop
 loop-again c =
     let l = c .before .before .before .before .loop in (
-      sym
-          (each-next (codeQuestion _ _) _ (l .left) (l .at) (omega arith)
-          (sym (c .before .before .code-question .ensures) ∙ c .enum-told .given .1))
-          ∙ l .inv .0,
-      omega (arith, stride (l .left) (c .before .before .before .before .before .profile-length .result) (omega arith)),
+      passed-here (l .inv .0) (omega arith) (c .before .before .code-question .ensures) (c .enum-told .given .1),
+      one-less (l .inv .1) (omega arith),
       λ n. omega arith,
     )
 
 returns-2 : tie.Need-returns-2 Inv-loop μ-loop
-returns-2 c =
-    let l = c .before .loop in
-    sym (each-done (codeQuestion _ _) _ (l .left) (l .at) (omega arith)) ∙ l .inv .0
+returns-2 c = all-passed (c .before .loop .inv .0) (omega arith)
 
 pub codes-question-spec : {M : Type 1} → statement M
 codes-question-spec =

@@ -21,7 +21,7 @@ first-passes : (c : tie.After-known-told) → check (start c .args .file .now) (
 first-passes c = found-at _ (sym (c .before .at .given .1) ∙ c .before .before .before .find-checked .ensures) .0
 
 first : (c : tie.After-known-told) → FoundAt (start c .args .file .now) (start c .args .first) (c .before .at .given .0 .0)
-first c = found-checked _ _ (sym (c .before .at .given .1) ∙ c .before .before .before .find-checked .ensures)
+first c = found-checked _ _ (c .before .at .given .1) (c .before .before .before .find-checked .ensures) .1
 
 -- and the second one
 abbrev of-first : tie.After-known-told3 → tie.After-known-told

@@ -2,10 +2,10 @@
 -- left end where the file ends. The measure is how many are left. Assumes nothing.
 use mathlib.Core.Path.{_≡_, refl, sym, _∙_}
 use mathlib.Core.List.{List}
-use Prim.Native.Nat.{ℕ, zero, suc, _+_, _*_, _≤_, _<_}
+use Prim.Native.Nat.{ℕ, _<_}
 use native.Mathlib.Omega.{arith}
 use lib.ListN.{length}
-use Rattle.lists.proofs.Strides.{stride}
+use Rattle.lists.proofs.Strides.{Ahead, next-inside, one-less, none-ahead}
 use Rattle.refusal.specs.declared.Refusal.the-variants.{NoGroup}
 use Rattle.file_layout.specs.Header.{layoutOf, profileLength}
 use Rattle.file_group.specs.declared.Found.the-variants.{At, Refused}
@@ -20,15 +20,13 @@ module _ (file : List ℕ) (group place : ℕ) {at : ℕ} where
   stands-here : at < length file → at ≡ groupOffset file group → At at ≡ foundBy (groupQuestion file group place) (groupOffset file group)
   stands-here h e = answers-at (group-there file group place (rw (← e) h)) e
 
-  missing : (left step : ℕ) → left ≤ 0 → at + left * step ≡ length file → at ≡ groupOffset file group →
-      Refused (NoGroup place) ≡ foundBy (groupQuestion file group place) (groupOffset file group)
-  missing zero step h end e = answers-refused _ (group-missing file group place (rw (← e) (omega arith)))
-  missing (suc left) step h end e = absurd (omega arith)
+  missing : at ≡ length file → at ≡ groupOffset file group → Refused (NoGroup place) ≡ foundBy (groupQuestion file group place) (groupOffset file group)
+  missing end e = answers-refused _ (group-missing file group place (rw (← e) (omega arith)))
 
 abbrev Inv-loop : tie.InvT-loop
 Inv-loop file group place step left₀ at₀ left at =
     (offsetAmong (layoutOf file) file group left at ≡ groupOffset file group)
-    × (at + left * step ≡ length file)
+    × Ahead step left at (length file)
     × (step ≡ profileLength (layoutOf file))
 
 abbrev μ-loop : tie.MeasureT-loop
@@ -41,26 +39,23 @@ profile-length-requires : tie.Need-profile-length-requires Inv-loop μ-loop
 profile-length-requires c κs = rw (c .layout-of .ensures .0) (c .before .before .pre .sound)
 
 loop-holds : tie.Need-loop-holds Inv-loop μ-loop
-loop-holds c = rw (c .profile-length .ensures, c .before .layout-of .ensures .0) (refl, sym (c .before .before .before .pre .whole), refl)
+loop-holds c = rw (c .profile-length .ensures, c .before .layout-of .ensures .0) (refl, record { ends = sym (c .before .before .before .pre .whole) }, refl)
 
 shared-slice-read-if1 : tie.Need-shared-slice-read-if1 Inv-loop μ-loop
 shared-slice-read-if1 c =
     let l = c .before .before .loop in
     let s = c .before .before .before .before .before .before .pre .sound in
-    omega (arith, s .coded, stride (l .left) (c .before .before .before .profile-length .result) (omega arith))
+    omega (arith, s .coded, next-inside (l .inv .1) (omega arith))
 
 returns : tie.Need-returns Inv-loop μ-loop
 returns c =
     let l = c .before .before .before .loop in
-    let step = c .before .before .before .before .profile-length .result in
     let inside : l .at < length (c .before .before .before .before .before .before .before .args .file .now) =
-    omega (arith, stride (l .left) step (omega arith)) in
+    omega (arith, next-inside (l .inv .1) (omega arith)) in
     stands-here _ _ _ inside (sym (find-here _ _ _ (l .left) (l .at) (omega arith) (c .if1 .taken)) ∙ l .inv .0)
 
 add-at : tie.Need-add-at Inv-loop μ-loop
-add-at c =
-    let l = c .before .before .before .loop in
-    omega (arith, stride (l .left) (c .before .before .before .before .profile-length .result) (omega arith))
+add-at c = omega (arith, next-inside (c .before .before .before .loop .inv .1) (omega arith))
 
 sub-left : tie.Need-sub-left Inv-loop μ-loop
 sub-left c = omega arith
@@ -71,14 +66,13 @@ loop-less c = omega arith
 loop-again : tie.Need-loop-again Inv-loop μ-loop
 loop-again c =
     let l = c .before .before .before .loop in
-    let step = c .before .before .before .before .profile-length .result in
-    let s = stride (l .left) step (omega arith) in
-    (rw (l .inv .2) (sym (find-later _ _ _ (l .left) (l .at) (omega arith) (c .if1 .left)) ∙ l .inv .0), omega arith, l .inv .2)
+    let later = sym (find-later _ _ _ (l .left) (l .at) (omega arith) (c .if1 .left)) ∙ l .inv .0 in
+    (rw (l .inv .2) later, one-less (l .inv .1) (omega arith), l .inv .2)
 
 returns-2 : tie.Need-returns-2 Inv-loop μ-loop
 returns-2 c =
     let l = c .before .loop in
-    missing _ _ _ (l .left) _ (omega arith) (l .inv .1) (sym (find-end _ _ _ (l .left) (l .at) (omega arith)) ∙ l .inv .0)
+    missing _ _ _ (none-ahead (l .inv .1) (omega arith)) (sym (find-end _ _ _ (l .left) (l .at) (omega arith)) ∙ l .inv .0)
 
 pub find-spec : {M : Type 1} → statement M
 find-spec =

@@ -4,12 +4,12 @@ use mathlib.Core.Path.{sym}
 use Prim.Native.Nat.{_*_, _≤_}
 use native.Mathlib.Omega.{arith}
 use lib.ListN.{length}
-use borrow.Author.Tests.{le-leb, lt-leb, eq-eqb, ne-eqb}
+use borrow.Author.Tests.{le-leb, eq-eqb}
 use borrow.Author.Needs.{needs}
 use Rattle.refusal.specs.declared.Refusal.the-variants.{WrongLength}
-use Rattle.refusal.proofs.Questions.{ask-yes, ask-no}
+use Rattle.refusal.proofs.Questions.{ask-yes}
 use Rattle.file_layout.specs.Header.{fileLength, lengthQuestion}
-use Rattle.file_layout.proofs.Header.{files-small}
+use Rattle.file_layout.proofs.Header.{wrong-length, files-small}
 use Rattle.file_layout.proofs.length_question.Statement.{statement}
 use Rattle.file_layout.proofs.length_question.Tie as tie
 
@@ -17,18 +17,10 @@ small : (c : tie.After-struct-known3) → c .before .before .before .before .bef
 small c = files-small _ _ (omega arith) (omega arith)
 
 returns : tie.Need-returns
-unfolding lengthQuestion
-returns c =
-    let a = c .before .before .before .args in
-    let count = a .layout .count in
-    sym (ask-no WrongLength (simp (lt-leb 1 count (omega arith))))
+returns c = wrong-length _ _ (λ l. omega arith)
 
 returns-2 : tie.Need-returns-2
-unfolding lengthQuestion
-returns-2 c =
-    let a = c .before .before .before .before .before .args in
-    let count = a .layout .count in
-    sym (ask-no WrongLength (simp (le-leb 1 count (omega arith), lt-leb count 11 (omega arith))))
+returns-2 c = wrong-length _ _ (λ l. omega arith)
 
 profile-length-requires : tie.Need-profile-length-requires
 profile-length-requires c κs = search needs
@@ -40,14 +32,9 @@ add-if3 : tie.Need-add-if3
 add-if3 c = omega (arith, small c)
 
 returns-3 : tie.Need-returns-3
-unfolding lengthQuestion
 returns-3 c =
-    let a = c .before .before .before .before .before .before .before .before .args in
-    let count = a .layout .count in
-    let some = le-leb 1 count (omega arith) in
-    let most = le-leb count 11 (omega arith) in
     let other = rw (c .before .before .profile-length .ensures) at (c .if3 .taken) in
-    sym (ask-no WrongLength (simp (some, most, ne-eqb (length (a .file .now)) (fileLength (a .layout)) other)))
+    wrong-length _ _ (λ l. other (l .whole))
 
 returns-4 : tie.Need-returns-4
 unfolding lengthQuestion

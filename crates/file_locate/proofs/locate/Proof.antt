@@ -2,10 +2,9 @@
 -- are the located part. Assumes nothing.
 use mathlib.Core.Path.{_≡_, refl, sym, _∙_}
 use borrow.Author.Needs.{needs}
-use Rattle.file_group.specs.declared.Found.the-variants.{At}
-use Rattle.file_group.specs.Group.{groupOffset, check}
-use Rattle.file_group.specs.Inside.{foundBy}
-use Rattle.file_group.proofs.Group.{found-at, found-refused, found-checked, values-inside}
+use Rattle.refusal.specs.declared.Verdict.the-variants.{Pass}
+use Rattle.file_group.specs.Group.{check}
+use Rattle.file_group.proofs.Group.{found-refused, FoundAt, found-checked, values-inside}
 use Rattle.file_locate.proofs.Locating.{refused-part, found-part}
 use Rattle.file_locate.proofs.locate.Statement.{statement}
 use Rattle.file_locate.proofs.locate.Tie as tie
@@ -14,9 +13,9 @@ use Rattle.file_locate.proofs.locate.Tie as tie
 abbrev start : tie.After-known-told → tie.Start
 start c = c .before .before .before .before .before .before
 
-found : (c : tie.After-known-told) →
-    At (c .before .at .given .0 .0) ≡ foundBy (check (start c .args .file .now) (start c .args .group)) (groupOffset (start c .args .file .now) (start c .args .group))
-found c = sym (c .before .at .given .1) ∙ c .before .before .before .find-checked .ensures
+there : (c : tie.After-known-told) →
+    let a = start c .args in (check (a .file .now) (a .group) ≡ Pass) × FoundAt (a .file .now) (a .group) (c .before .at .given .0 .0)
+there c = found-checked _ _ (c .before .at .given .1) (c .before .before .before .find-checked .ensures)
 
 sub-nothing : tie.Need-sub-nothing
 sub-nothing c = search needs
@@ -40,10 +39,10 @@ returns : tie.Need-returns
 returns c = refused-part _ _ _ (found-refused _ _ (sym (c .enum-told .given .1) ∙ c .before .before .find-checked .ensures)) refl refl
 
 values-of-requires : tie.Need-values-of-requires
-values-of-requires c κs = values-inside _ _ (found-checked _ _ (found c))
+values-of-requires c κs = values-inside _ _ (there c .1)
 
 returns-2 : tie.Need-returns-2
-returns-2 c = found-part _ _ _ (found-at _ (found (c .before)) .0) (found-checked _ _ (found (c .before))) (c .values-of .ensures)
+returns-2 c = found-part _ _ _ (there (c .before) .0) (there (c .before) .1) (c .values-of .ensures)
 
 pub locate-spec : {M : Type 1} → statement M
 locate-spec =

@@ -3,12 +3,11 @@
 use mathlib.Core.Path.{_≡_, sym, _∙_, ap}
 use native.Mathlib.Omega.{arith}
 use borrow.Author.Needs.{needs}
+use Rattle.refusal.specs.declared.Verdict.the-variants.{Pass}
 use Rattle.file_layout.specs.declared.Layout.{Layout}
 use Rattle.file_layout.specs.Header.{layoutOf}
-use Rattle.file_group.specs.declared.Found.the-variants.{At}
-use Rattle.file_group.specs.Group.{groupOffset, check}
-use Rattle.file_group.specs.Inside.{foundBy}
-use Rattle.file_group.proofs.Group.{found-at, found-refused, FoundAt, found-checked, values-inside}
+use Rattle.file_group.specs.Group.{check}
+use Rattle.file_group.proofs.Group.{found-refused, FoundAt, found-checked, values-inside}
 use Rattle.file_locate.proofs.Locating.{refused-place, found-place}
 use Rattle.file_locate.proofs.located_part.Statement.{statement}
 use Rattle.file_locate.proofs.located_part.Tie as tie
@@ -17,12 +16,9 @@ use Rattle.file_locate.proofs.located_part.Tie as tie
 abbrev start : tie.After-known-told → tie.Start
 start c = c .before .before .before .before .before
 
-found : (c : tie.After-known-told) →
-    At (c .before .at .given .0 .0) ≡ foundBy (check (start c .args .file .now) (start c .args .group)) (groupOffset (start c .args .file .now) (start c .args .group))
-found c = sym (c .before .at .given .1) ∙ c .before .before .before .find-checked .ensures
-
-there : (c : tie.After-known-told) → FoundAt (start c .args .file .now) (start c .args .group) (c .before .at .given .0 .0)
-there c = found-checked _ _ (found c)
+there : (c : tie.After-known-told) →
+    let a = start c .args in (check (a .file .now) (a .group) ≡ Pass) × FoundAt (a .file .now) (a .group) (c .before .at .given .0 .0)
+there c = found-checked _ _ (c .before .at .given .1) (c .before .before .before .find-checked .ensures)
 
 -- the layout is the file's own
 before-is : (c : tie.After-layout-of) → c .layout-of .result .before ≡ layoutOf (start (c .before) .args .file .now) .before
@@ -44,18 +40,18 @@ returns : tie.Need-returns
 returns c = refused-place _ _ (found-refused _ _ (sym (c .enum-told .given .1) ∙ c .before .before .find-checked .ensures))
 
 layout-of-requires : tie.Need-layout-of-requires
-layout-of-requires c κs = omega (arith, values-inside _ _ (there c) .0 .whole)
+layout-of-requires c κs = omega (arith, values-inside _ _ (there c .1) .0 .whole)
 
 add-t7 : tie.Need-add-t7
-add-t7 c = omega (arith, values-inside _ _ (there (c .before .before)) .1, before-is (c .before))
+add-t7 c = omega (arith, values-inside _ _ (there (c .before .before) .1) .1, before-is (c .before))
 
 mul-t8 : tie.Need-mul-t8
-mul-t8 c = omega (arith, values-inside _ _ (there (c .before .before .before)) .1, values-are (c .before .before))
+mul-t8 c = omega (arith, values-inside _ _ (there (c .before .before .before) .1) .1, values-are (c .before .before))
 
 returns-2 : tie.Need-returns-2
 returns-2 c =
     let l = c .before .before in
-    found-place _ _ (found-at _ (found (l .before)) .0) (there (l .before)) (before-is l) (values-are l)
+    found-place _ _ (there (l .before) .0) (there (l .before) .1) (before-is l) (values-are l)
 
 pub located-part-spec : {M : Type 1} → statement M
 located-part-spec =

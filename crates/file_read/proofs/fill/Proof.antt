@@ -3,18 +3,16 @@
 use mathlib.Core.Path.{_≡_, refl, _∙_}
 use Prim.Native.Nat.{_+_, _*_, _≤_}
 use native.Mathlib.Omega.{arith}
-use native.Mathlib.Numerals.{add-one}
-use lib.ListN.{length, length-set}
-use lib.Seq.{sets}
+use lib.ListN.{length}
 use Rattle.lists.proofs.Strides.{places-next, places-end, stored-places}
+use Rattle.lists.proofs.Stores.{Storing, nothing-stored, one-stored, all-stored}
 use Rattle.big_endian.specs.BigEndian.{wordAt, wordsFrom}
 use Rattle.file_read.proofs.fill.Statement.{statement}
 use Rattle.file_read.proofs.fill.Tie as tie
 
 abbrev Inv-loop : tie.InvT-loop
 Inv-loop part table₀ left₀ at₀ entry₀ table left at entry =
-    (sets table entry (wordsFrom part left at) ≡ sets table₀ entry₀ (wordsFrom part left₀ at₀))
-    × (length table ≡ length table₀)
+    Storing table₀ entry₀ (wordsFrom part left₀ at₀) table entry (wordsFrom part left at)
     × (at + left * 2 ≤ length part)
     × (entry + left ≡ left₀)
 
@@ -22,7 +20,7 @@ abbrev μ-loop : tie.MeasureT-loop
 μ-loop part table₀ left₀ at₀ entry₀ table left at entry = left
 
 loop-holds : tie.Need-loop-holds Inv-loop μ-loop
-loop-holds c = (refl, refl, omega arith, omega arith)
+loop-holds c = (nothing-stored, omega arith, omega arith)
 
 word-at-requires : tie.Need-word-at-requires Inv-loop μ-loop
 word-at-requires c κs = omega arith
@@ -53,15 +51,15 @@ loop-again c =
     let l = c .before .before .loop in
     let part = c .before .before .before .before .before .args .part .now in
     let next = places-next (wordAt part) 2 (l .left) (l .at) (omega arith) in
-    (rw (add-one, c .word-at .ensures .0) (rw next at (l .inv .0)), simp length-set (l .inv .1), omega arith, omega arith)
+    (rw (c .word-at .ensures .0) (one-stored (l .inv .0) next refl), omega arith, omega arith)
 
 same-length : tie.Need-same-length Inv-loop μ-loop
-same-length c = c .before .loop .inv .1
+same-length c = c .before .loop .inv .0 .kept
 
 returns : tie.Need-returns Inv-loop μ-loop
 returns c =
     let l = c .before .loop in
-    rw (places-end _ 2 (l .left) (l .at) (omega arith)) at (l .inv .0)
+    all-stored (l .inv .0) (places-end _ 2 (l .left) (l .at) (omega arith))
     ∙ stored-places _ 2 _ _ _ (c .before .before .before .before .pre)
 
 pub fill-spec : {M : Type 1} → statement M

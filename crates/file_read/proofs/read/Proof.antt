@@ -4,14 +4,14 @@ use mathlib.Core.Path.{_≡_, sym, _∙_, ap}
 use native.Mathlib.Omega.{arith}
 use lib.ListN.{length}
 use borrow.Author.Needs.{needs}
+use Rattle.refusal.specs.declared.Verdict.the-variants.{Pass}
 use Rattle.refusal.specs.Questions.{roomQuestion}
 use Rattle.refusal.proofs.Questions.{is-refused, stops, then-pass, room-passed}
 use Rattle.file_layout.specs.declared.Layout.{Layout}
 use Rattle.file_layout.specs.Header.{layoutOf}
-use Rattle.file_group.specs.declared.Found.the-variants.{At}
-use Rattle.file_group.specs.Group.{groupOffset, check}
-use Rattle.file_group.specs.Inside.{foundBy, verdictOf}
-use Rattle.file_group.proofs.Group.{found-at, verdict-of-found, FoundAt, found-checked, values-inside, part-count, part-words}
+use Rattle.file_group.specs.Group.{check}
+use Rattle.file_group.specs.Inside.{verdictOf}
+use Rattle.file_group.proofs.Group.{verdict-of-found, FoundAt, found-checked, values-inside, part-count, part-words}
 use Rattle.file_read.specs.Reading.{readCheck}
 use Rattle.file_read.proofs.Reading.{read-refused, read-filled}
 use Rattle.file_read.proofs.read.Statement.{statement}
@@ -21,12 +21,9 @@ use Rattle.file_read.proofs.read.Tie as tie
 abbrev start : tie.After-known-told → tie.Start
 start c = c .before .before .before .before .before .before
 
-found : (c : tie.After-known-told) →
-    At (c .before .found .given .0 .0) ≡ foundBy (check (start c .args .file .now) (start c .args .group)) (groupOffset (start c .args .file .now) (start c .args .group))
-found c = sym (c .before .found .given .1) ∙ c .before .before .before .find-checked .ensures
-
-there : (c : tie.After-known-told) → FoundAt (start c .args .file .now) (start c .args .group) (c .before .found .given .0 .0)
-there c = found-checked _ _ (found c)
+there : (c : tie.After-known-told) →
+    let a = start c .args in (check (a .file .now) (a .group) ≡ Pass) × FoundAt (a .file .now) (a .group) (c .before .found .given .0 .0)
+there c = found-checked _ _ (c .before .found .given .1) (c .before .before .before .find-checked .ensures)
 
 -- question 12 was asked
 abbrev of-room : tie.After-room-question → tie.After-known-told
@@ -38,7 +35,7 @@ asked c =
     ∙ ap (λ (layout : Layout). roomQuestion (layout .values) (length (start (of-room c) .args .table .now))) (c .before .layout-of .ensures .0)
 
 all-asked : (c : tie.After-room-question) → c .room-question .result ≡ readCheck (start (of-room c) .args .file .now) (start (of-room c) .args .group) (length (start (of-room c) .args .table .now))
-all-asked c = asked c ∙ sym (then-pass _ (found-at _ (found (of-room c)) .0))
+all-asked c = asked c ∙ sym (then-pass _ (there (of-room c) .0))
 
 find-checked-requires : tie.Need-find-checked-requires
 find-checked-requires c κs = search needs
@@ -60,7 +57,7 @@ returns c =
     read-refused _ _ _ (stops _ told refused) refused
 
 layout-of-requires : tie.Need-layout-of-requires
-layout-of-requires c κs = omega (arith, values-inside _ _ (there c) .0 .whole)
+layout-of-requires c κs = omega (arith, values-inside _ _ (there c .1) .0 .whole)
 
 room-question-requires : tie.Need-room-question-requires
 room-question-requires c κs = search needs
@@ -75,13 +72,13 @@ returns-2 : tie.Need-returns-2
 returns-2 c = read-refused _ _ _ (all-asked (c .before .before)) (is-refused (c .enum-told3 .given .1))
 
 values-of-requires : tie.Need-values-of-requires
-values-of-requires c κs = values-inside _ _ (there (of-room (c .before .before)))
+values-of-requires c κs = values-inside _ _ (there (of-room (c .before .before)) .1)
 
 fill-requires : tie.Need-fill-requires
 fill-requires c κs =
     let passed = c .before .before in
     let room = passed .before .before in
-    omega (arith, part-count _ _ (there (of-room room)) (c .before .values-of .ensures .bytes), room-passed _ _ (sym (asked room) ∙ passed .enum-told2 .given .1))
+    omega (arith, part-count _ _ (there (of-room room) .1) (c .before .values-of .ensures .bytes), room-passed _ _ (sym (asked room) ∙ passed .enum-told2 .given .1))
 
 same-length : tie.Need-same-length
 same-length c = search needs
@@ -91,7 +88,7 @@ returns-3 c =
     let lent = c .before .before .before .before in
     let passed = lent .before in
     let room = passed .before .before in
-    let at = there (of-room room) in
+    let at = there (of-room room) .1 in
     let bytes = lent .values-of .ensures .bytes in
     read-filled _ _ _ (all-asked room) (passed .enum-told2 .given .1) (rw (part-words _ _ at bytes, part-count _ _ at bytes) at (c .before .before .fill .ensures))
 

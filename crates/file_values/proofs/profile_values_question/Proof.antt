@@ -1,12 +1,12 @@
 -- `file_values::profile_values_question` meets its contract: where the quick look passes, every value does. The loop's invariant: what
 -- is left to ask is all that counts, and it is in the file. The measure is how many values are left. Assumes nothing.
-use mathlib.Core.Path.{_≡_, refl, sym, _∙_}
+use mathlib.Core.Path.{refl, sym}
 use Prim.Native.Nat.{_+_, _*_, _≤_}
 use native.Mathlib.Omega.{arith}
 use lib.ListN.{length}
 use borrow.Author.Needs.{needs}
 use Rattle.refusal.specs.Questions.{askEach}
-use Rattle.refusal.proofs.Questions.{each-done, each-next, each-refused}
+use Rattle.refusal.proofs.Questions.{Asking, refused-here, passed-here, all-passed}
 use Rattle.file_values.specs.Values.{valueQuestion, profileValuesQuestion}
 use Rattle.file_values.proofs.Values.{upper-pass}
 use Rattle.file_values.proofs.profile_values_question.Statement.{statement}
@@ -14,7 +14,7 @@ use Rattle.file_values.proofs.profile_values_question.Tie as tie
 
 abbrev Inv-loop : tie.InvT-loop
 Inv-loop file at left₀ at₀ left at' =
-    (askEach (valueQuestion file) 2 left at' ≡ askEach (valueQuestion file) 2 left₀ at₀) × (at' + left * 2 ≤ length file)
+    Asking (valueQuestion file) 2 left at' (askEach (valueQuestion file) 2 left₀ at₀) × (at' + left * 2 ≤ length file)
 
 abbrev μ-loop : tie.MeasureT-loop
 μ-loop file at left₀ at₀ left at' = left
@@ -39,7 +39,7 @@ add-at : tie.Need-add-at Inv-loop μ-loop
 add-at c = omega arith
 
 loop-holds : tie.Need-loop-holds Inv-loop μ-loop
-loop-holds c = (refl, omega arith)
+loop-holds c = (record { asked = refl }, omega arith)
 
 value-question-requires : tie.Need-value-question-requires Inv-loop μ-loop
 value-question-requires c κs = omega arith
@@ -54,7 +54,7 @@ returns-2 : tie.Need-returns-2 Inv-loop μ-loop
 unfolding profileValuesQuestion
 returns-2 c =
     let l = c .before .before .before .before .loop in
-    sym (each-refused (valueQuestion _) 2 (l .left) (l .at) (omega arith) (c .before .before .value-question .ensures) (search needs)) ∙ l .inv .0
+    refused-here (l .inv .0) (omega arith) (c .before .before .value-question .ensures) (search needs)
 
 add-at-2 : tie.Need-add-at-2 Inv-loop μ-loop
 add-at-2 c = omega arith
@@ -67,19 +67,12 @@ loop-less c = omega arith
 
 loop-again : tie.Need-loop-again Inv-loop μ-loop
 loop-again c =
-    let l = c .before .before .before .before .loop in (
-      sym
-          (each-next (valueQuestion _) 2 (l .left) (l .at) (omega arith)
-          (sym (c .before .before .value-question .ensures) ∙ c .enum-told .given .1))
-          ∙ l .inv .0,
-      omega arith,
-    )
+    let l = c .before .before .before .before .loop in
+    (passed-here (l .inv .0) (omega arith) (c .before .before .value-question .ensures) (c .enum-told .given .1), omega arith)
 
 returns-3 : tie.Need-returns-3 Inv-loop μ-loop
 unfolding profileValuesQuestion
-returns-3 c =
-    let l = c .before .loop in
-    sym (each-done (valueQuestion _) 2 (l .left) (l .at) (omega arith)) ∙ l .inv .0
+returns-3 c = all-passed (c .before .loop .inv .0) (omega arith)
 
 pub profile-values-question-spec : {M : Type 1} → statement M
 profile-values-question-spec =

@@ -1,12 +1,12 @@
 -- `file_write::put_profiles` meets its contract. The invariant: what is stored and what is left to store come to all.
 -- Assumes nothing.
-use mathlib.Core.Path.{_≡_, refl, sym, _∙_}
+use mathlib.Core.Path.{_≡_, refl}
 use Prim.Native.Nat.{_+_, _*_}
 use native.Mathlib.Omega.{arith}
 use lib.ListN.{length, drop, length-take, length-drop, length-set}
-use lib.Seq.{sets}
+use Rattle.lists.proofs.Stores.{Storing, nothing-stored, some-stored, one-stored, all-stored}
 use Rattle.file_written.specs.Written.{profilesOf}
-use Rattle.file_write.proofs.Buffer.{profile-stored, profiles-done}
+use Rattle.file_write.proofs.Buffer.{lentBytes, profiles-next, profile-bytes, profiles-done}
 use Rattle.file_write.proofs.put_profiles.Statement.{statement}
 use Rattle.file_write.proofs.put_profiles.Tie as tie
 
@@ -15,14 +15,13 @@ Inv-loop codes values buffer₀ left₀ i₀ from₀ at₀ buffer left i from at
     (i + left ≡ length codes)
     × (from ≡ i * 864)
     × (at ≡ 6 + i * 1729)
-    × (length buffer ≡ length buffer₀)
-    × (sets buffer at (profilesOf 864 (drop i codes) (drop from values)) ≡ sets buffer₀ 6 (profilesOf 864 codes values))
+    × Storing buffer₀ 6 (profilesOf 864 codes values) buffer at (profilesOf 864 (drop i codes) (drop from values))
 
 abbrev μ-loop : tie.MeasureT-loop
 μ-loop codes values buffer₀ left₀ i₀ from₀ at₀ buffer left i from at = left
 
 loop-holds : tie.Need-loop-holds Inv-loop μ-loop
-loop-holds c = (omega arith, omega arith, omega arith, refl, refl)
+loop-holds c = (omega arith, omega arith, omega arith, nothing-stored)
 
 shared-slice-read-buffer : tie.Need-shared-slice-read-buffer Inv-loop μ-loop
 shared-slice-read-buffer c = omega arith
@@ -65,23 +64,22 @@ loop-less c = omega arith
 
 loop-again : tie.Need-loop-again Inv-loop μ-loop
 loop-again c =
-    let l = c .before .before .before .before .before .before .before .loop in
-    let stored = c .before .before .put-values .ensures in
-    let kept = c .before .before .put-values .kept .1 .0 in (
-      omega arith,
-      omega arith,
-      omega arith,
-      kept ∙ length-set (l .buffer) (l .at) _ ∙ l .inv .3,
-      profile-stored 864 _ _ _ (l .i) (l .from) (l .at) (omega arith) (omega arith) stored ∙ l .inv .4,
-    )
+    let turn = c .before .before .before .before .before .before .before in
+    let l = turn .loop in
+    let a = turn .before .before .before .before .args in
+    let next = profiles-next 864 (a .codes .now) (a .values .now) (l .i) (l .from) (omega arith) in
+    let full = profile-bytes 864 (a .codes .now) (a .values .now) (l .i) (l .from) (omega arith) in
+    let own = lentBytes 864 (a .values .now) (l .from) in
+    let coded = one-stored (l .inv .3) next refl in
+    (omega arith, omega arith, omega arith, some-stored coded own refl (c .before .before .put-values .ensures) (omega arith))
 
 same-length : tie.Need-same-length Inv-loop μ-loop
-same-length c = c .before .loop .inv .3
+same-length c = c .before .loop .inv .3 .kept
 
 returns : tie.Need-returns Inv-loop μ-loop
 returns c =
     let l = c .before .loop in
-    sym (profiles-done 864 _ _ (l .buffer) (l .i) (l .from) (l .at) (omega arith)) ∙ l .inv .4
+    all-stored (l .inv .3) (profiles-done 864 _ _ (l .i) (l .from) (omega arith))
 
 pub put-profiles-spec : {M : Type 1} → statement M
 put-profiles-spec =

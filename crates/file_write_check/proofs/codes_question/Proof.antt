@@ -1,13 +1,12 @@
 -- `file_write_check::codes_question` meets its contract. The invariant: the questions left to ask are the reader's of the
 -- file to be written. Assumes nothing.
-use mathlib.Core.Path.{_≡_, sym, _∙_}
+use mathlib.Core.Path.{_≡_, _∙_}
 use mathlib.Core.List.{List}
 use Prim.Native.Nat.{ℕ, _+_, _-_, _*_, _<_}
 use native.Mathlib.Omega.{arith}
 use lib.ListN.{length, getD}
 use borrow.Author.Needs.{needs}
-use Rattle.refusal.specs.Questions.{askEach}
-use Rattle.refusal.proofs.Questions.{each-done, each-next, each-refused}
+use Rattle.refusal.proofs.Questions.{Asking, refused-here, passed-here, all-passed}
 use Rattle.file_layout.specs.Header.{layoutOf}
 use Rattle.file_check.specs.Check.{codesQuestion}
 use Rattle.file_written.specs.Written.{written}
@@ -21,7 +20,7 @@ Inv-loop codes left₀ i₀ at₀ before₀ left i at before =
     × (at ≡ 6 + i * 1729)
     × (0 < i → before ≡ getD codes (i - 1) 0)
     × ((values : List ℕ) → length values ≡ length codes * 864 →
-    askEach (fileCode codes values) 1729 left at ≡ codesQuestion (layoutOf (written codes values)) (written codes values))
+    Asking (fileCode codes values) 1729 left at (codesQuestion (layoutOf (written codes values)) (written codes values)))
 
 abbrev μ-loop : tie.MeasureT-loop
 μ-loop codes left₀ i₀ at₀ before₀ left i at before = left
@@ -46,19 +45,16 @@ abbrev codes : tie.After-code-question Inv-loop μ-loop → List ℕ
 codes c = c .before .before .before .before .before .args .codes .now
 
 -- the question that the turn asked is the reader's
-asked : (c : tie.After-code-question Inv-loop μ-loop) (values : List ℕ) → length values ≡ length (codes c) * 864 →
+reader : (c : tie.After-code-question Inv-loop μ-loop) (values : List ℕ) → length values ≡ length (codes c) * 864 →
     c .code-question .result ≡ fileCode (codes c) values (c .before .before .before .loop .at)
-asked c values each =
+reader c values each =
     let l = c .before .before .before .loop in
     c .code-question .ensures ∙ code-asked _ values each (l .i) (l .before) (omega arith) (l .inv .2) (l .at) (l .inv .1)
 
 returns : tie.Need-returns Inv-loop μ-loop
 returns c values each =
     let l = c .before .before .before .before .before .loop in
-    let t = c .before .before .before .before .loop-test in
-    sym
-    (each-refused (fileCode _ values) 1729 (l .left) (l .at) (t .taken) (asked (c .before .before) values each) (search needs))
-    ∙ l .inv .3 values each
+    refused-here (l .inv .3 values each) (omega arith) (reader (c .before .before) values each) (search needs)
 
 add-i : tie.Need-add-i Inv-loop μ-loop
 add-i c = omega arith
@@ -75,22 +71,15 @@ loop-less c = omega arith
 loop-again : tie.Need-loop-again Inv-loop μ-loop
 loop-again c =
     let l = c .before .before .before .before .before .loop in
-    let t = c .before .before .before .before .loop-test in
     let same : l .i + 1 - 1 ≡ l .i = omega arith in (
       omega arith,
       omega arith,
       λ h. rw same,
-      λ values each.
-          sym
-          (each-next (fileCode _ values) 1729 (l .left) (l .at) (t .taken)
-          (sym (asked (c .before .before) values each) ∙ c .enum-told .given .1))
-          ∙ l .inv .3 values each,
+      λ values each. passed-here (l .inv .3 values each) (omega arith) (reader (c .before .before) values each) (c .enum-told .given .1),
     )
 
 returns-2 : tie.Need-returns-2 Inv-loop μ-loop
-returns-2 c values each =
-    let l = c .before .loop in
-    sym (each-done (fileCode _ values) 1729 (l .left) (l .at) (c .loop-test .left)) ∙ l .inv .3 values each
+returns-2 c values each = all-passed (c .before .loop .inv .3 values each) (omega arith)
 
 pub codes-question-spec : {M : Type 1} → statement M
 codes-question-spec =

@@ -1,6 +1,6 @@
 -- `file_write_values::profile_values_question` meets its contract. The invariant: the questions left to ask are the
 -- reader's of any file that has the values. Assumes nothing.
-use mathlib.Core.Path.{_≡_, refl, sym, _∙_}
+use mathlib.Core.Path.{_≡_, refl, _∙_}
 use mathlib.Core.List.{List}
 use Prim.Native.Nat.{ℕ, _+_, _*_}
 use native.Mathlib.Omega.{arith}
@@ -8,7 +8,7 @@ use lib.ListN.{length}
 use borrow.Author.Needs.{needs}
 use Rattle.big_endian.specs.BigEndian.{wordsFrom}
 use Rattle.refusal.specs.Questions.{askEach}
-use Rattle.refusal.proofs.Questions.{each-done, each-next, each-refused}
+use Rattle.refusal.proofs.Questions.{Asking, refused-here, passed-here, all-passed}
 use Rattle.file_values.specs.Values.{valueQuestion}
 use Rattle.file_write_values.proofs.Values.{value-asked}
 use Rattle.file_write_values.proofs.profile_values_question.Statement.{statement}
@@ -19,13 +19,13 @@ Inv-loop values first left₀ i₀ at₀ left i at =
     (i + left ≡ length values)
     × (at ≡ first + i * 2)
     × ((file : List ℕ) → wordsFrom file (length values) first ≡ values →
-    askEach (valueQuestion file) 2 left at ≡ askEach (valueQuestion file) 2 (length values) first)
+    Asking (valueQuestion file) 2 left at (askEach (valueQuestion file) 2 (length values) first))
 
 abbrev μ-loop : tie.MeasureT-loop
 μ-loop values first left₀ i₀ at₀ left i at = left
 
 loop-holds : tie.Need-loop-holds Inv-loop μ-loop
-loop-holds c = (omega arith, omega arith, λ file stand. refl)
+loop-holds c = (omega arith, omega arith, λ file stand. record { asked = refl })
 
 mul-value-question : tie.Need-mul-value-question Inv-loop μ-loop
 mul-value-question c = omega arith
@@ -47,19 +47,17 @@ abbrev values : tie.After-value-question Inv-loop μ-loop → List ℕ
 values c = c .before .before .before .before .before .args .values .now
 
 -- the question that the turn asked is the reader's
-asked : (c : tie.After-value-question Inv-loop μ-loop) (file : List ℕ) →
+reader : (c : tie.After-value-question Inv-loop μ-loop) (file : List ℕ) →
     wordsFrom file (length (values c)) (c .before .before .before .before .before .args .at) ≡ values c →
     c .value-question .result ≡ valueQuestion file (c .before .before .before .loop .at)
-asked c file stand =
+reader c file stand =
     let l = c .before .before .before .loop in
     c .value-question .ensures ∙ value-asked file _ _ stand (l .i) (omega arith) (l .at) (l .inv .1)
 
 returns : tie.Need-returns Inv-loop μ-loop
 returns c file stand =
     let l = c .before .before .before .before .before .loop in
-    let t = c .before .before .before .before .loop-test in
-    sym (each-refused (valueQuestion file) 2 (l .left) (l .at) (t .taken) (asked (c .before .before) file stand) (search needs))
-    ∙ l .inv .2 file stand
+    refused-here (l .inv .2 file stand) (omega arith) (reader (c .before .before) file stand) (search needs)
 
 add-i : tie.Need-add-i Inv-loop μ-loop
 add-i c = omega arith
@@ -75,20 +73,14 @@ loop-less c = omega arith
 
 loop-again : tie.Need-loop-again Inv-loop μ-loop
 loop-again c =
-    let l = c .before .before .before .before .before .loop in
-    let t = c .before .before .before .before .loop-test in (
+    let l = c .before .before .before .before .before .loop in (
       omega arith,
       omega arith,
-      λ file stand.
-          sym
-          (each-next (valueQuestion file) 2 (l .left) (l .at) (t .taken) (sym (asked (c .before .before) file stand) ∙ c .enum-told .given .1))
-          ∙ l .inv .2 file stand,
+      λ file stand. passed-here (l .inv .2 file stand) (omega arith) (reader (c .before .before) file stand) (c .enum-told .given .1),
     )
 
 returns-2 : tie.Need-returns-2 Inv-loop μ-loop
-returns-2 c file stand =
-    let l = c .before .loop in
-    sym (each-done (valueQuestion file) 2 (l .left) (l .at) (c .loop-test .left)) ∙ l .inv .2 file stand
+returns-2 c file stand = all-passed (c .before .loop .inv .2 file stand) (omega arith)
 
 pub profile-values-question-spec : {M : Type 1} → statement M
 profile-values-question-spec =

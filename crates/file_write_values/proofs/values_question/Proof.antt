@@ -1,13 +1,12 @@
 -- `file_write_values::values_question` meets its contract. The invariant: the questions left to ask are the reader's of the
 -- file to be written. Assumes nothing.
-use mathlib.Core.Path.{_≡_, sym, _∙_}
+use mathlib.Core.Path.{_≡_}
 use mathlib.Core.List.{List}
 use Prim.Native.Nat.{ℕ, _+_, _-_, _*_, _≤_}
 use native.Mathlib.Omega.{arith}
 use lib.ListN.{length, length-take}
 use borrow.Author.Needs.{needs}
-use Rattle.refusal.specs.Questions.{askEach}
-use Rattle.refusal.proofs.Questions.{each-done, each-next, each-refused}
+use Rattle.refusal.proofs.Questions.{Asking, refused-here, passed-here, all-passed}
 use Rattle.file_layout.specs.Header.{layoutOf}
 use Rattle.file_values.specs.Values.{valuesQuestion}
 use Rattle.file_written.specs.Written.{written}
@@ -22,7 +21,7 @@ Inv-loop values count left₀ from₀ at₀ left from at =
     × (from ≡ (count - left) * 864)
     × (at ≡ 6 + (count - left) * 1729)
     × ((codes : List ℕ) → length codes ≡ count →
-    askEach (fileValues codes values) 1729 left at ≡ valuesQuestion (layoutOf (written codes values)) (written codes values))
+    Asking (fileValues codes values) 1729 left at (valuesQuestion (layoutOf (written codes values)) (written codes values)))
 
 abbrev μ-loop : tie.MeasureT-loop
 μ-loop values count left₀ from₀ at₀ left from at = left
@@ -62,10 +61,10 @@ abbrev values : tie.After-profile-values-question Inv-loop μ-loop → List ℕ
 values c = c .before .before .before .before .before .args .values .now
 
 -- the question that the turn asked is the reader's
-asked : (c : tie.After-profile-values-question Inv-loop μ-loop) (codes : List ℕ) →
+reader : (c : tie.After-profile-values-question Inv-loop μ-loop) (codes : List ℕ) →
     length codes ≡ c .before .before .before .before .before .args .count →
     c .profile-values-question .result ≡ fileValues codes (values c) (c .before .before .before .loop .at)
-asked c codes counted =
+reader c codes counted =
     let l = c .before .before .before .loop in
     part-asked codes (values c) (omega arith) (length codes - l .left) (omega arith) (l .from) (l .at) (omega arith) (omega arith) _
     (part-of (l .from) 864 (values c)) (c .profile-values-question .ensures)
@@ -73,10 +72,7 @@ asked c codes counted =
 returns : tie.Need-returns Inv-loop μ-loop
 returns c codes counted =
     let l = c .before .before .before .before .before .loop in
-    let t = c .before .before .before .before .loop-test in
-    sym
-    (each-refused (fileValues codes _) 1729 (l .left) (l .at) (t .taken) (asked (c .before .before) codes counted) (search needs))
-    ∙ l .inv .3 codes counted
+    refused-here (l .inv .3 codes counted) (omega arith) (reader (c .before .before) codes counted) (search needs)
 
 add-at : tie.Need-add-at Inv-loop μ-loop
 add-at c = omega arith
@@ -89,22 +85,15 @@ loop-less c = omega arith
 
 loop-again : tie.Need-loop-again Inv-loop μ-loop
 loop-again c =
-    let l = c .before .before .before .before .before .loop in
-    let t = c .before .before .before .before .loop-test in (
+    let l = c .before .before .before .before .before .loop in (
       omega arith,
       omega arith,
       omega arith,
-      λ codes counted.
-          sym
-          (each-next (fileValues codes _) 1729 (l .left) (l .at) (t .taken)
-          (sym (asked (c .before .before) codes counted) ∙ c .enum-told .given .1))
-          ∙ l .inv .3 codes counted,
+      λ codes counted. passed-here (l .inv .3 codes counted) (omega arith) (reader (c .before .before) codes counted) (c .enum-told .given .1),
     )
 
 returns-2 : tie.Need-returns-2 Inv-loop μ-loop
-returns-2 c codes counted =
-    let l = c .before .loop in
-    sym (each-done (fileValues codes _) 1729 (l .left) (l .at) (c .loop-test .left)) ∙ l .inv .3 codes counted
+returns-2 c codes counted = all-passed (c .before .loop .inv .3 codes counted) (omega arith)
 
 pub values-question-spec : {M : Type 1} → statement M
 values-question-spec =

@@ -16,13 +16,21 @@ put-byte-requires : tie.Need-put-byte-requires
 put-byte-requires c κs = search needs
 
 put-two-digits-requires-3 : tie.Need-put-two-digits-requires-3
-put-two-digits-requires-3 c κs = omega (arith, parts _ (c .before .before .before .before .before .before .before .before .before .before .before .before .before .before .before .before .pre .0))
+put-two-digits-requires-3 c κs =
+    let first = c .before in
+    let low = first .before .before .before .before in
+    let high = low .before .before .before .before .before in
+    omega (arith, parts _ (high .before .before .before .before .before .before .pre .0))
 
 put-byte-requires-2 : tie.Need-put-byte-requires-2
 put-byte-requires-2 c κs = search needs
 
 put-two-digits-requires-4 : tie.Need-put-two-digits-requires-4
-put-two-digits-requires-4 c κs = omega (arith, parts _ (c .before .before .before .before .before .before .before .before .before .before .before .before .before .before .before .before .before .before .before .before .before .before .before .before .pre .0))
+put-two-digits-requires-4 c κs =
+    let month = c .before .before .before .before .before in
+    let low = month .before .before .before .before .before .before .before .before in
+    let high = low .before .before .before .before .before in
+    omega (arith, parts _ (high .before .before .before .before .before .before .pre .0))
 
 same-length : tie.Need-same-length
 same-length c = search needs

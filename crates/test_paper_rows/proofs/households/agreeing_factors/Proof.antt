@@ -10,28 +10,16 @@ Inv-loop agree₀ i₀ agree i = (agree ≤ i) × (i ≤ 20)
 abbrev μ-loop : tie.MeasureT-loop
 μ-loop agree₀ i₀ agree i = 20 - i
 
-loop-holds : tie.Need-loop-holds Inv-loop μ-loop
-loop-holds c = search needs
-
-compare-factor-requires : tie.Need-compare-factor-requires Inv-loop μ-loop
-compare-factor-requires c κs = search needs
-
-add-agree : tie.Need-add-agree Inv-loop μ-loop
-add-agree c = search needs
-
-add-i : tie.Need-add-i Inv-loop μ-loop
-add-i c = search needs
-
-loop-less : tie.Need-loop-less Inv-loop μ-loop
-loop-less c = search needs
-
-loop-again : tie.Need-loop-again Inv-loop μ-loop
-loop-again c = search needs
-
-returns : tie.Need-returns Inv-loop μ-loop
-returns c = search needs
-
 pub agreeing-factors-spec : {M : Type 1} → statement M
 agreeing-factors-spec =
     tie.close
-    (tie.spec Inv-loop μ-loop loop-holds compare-factor-requires add-agree add-i loop-less loop-again returns)
+    (tie.spec
+    Inv-loop
+    μ-loop
+    (λ c. search needs)
+    (λ c κs. search needs)
+    (λ c. search needs)
+    (λ c. search needs)
+    (λ c. search needs)
+    (λ c. search needs)
+    (λ c. search needs))
