@@ -7,7 +7,7 @@ use Rattle.calendar_dates.specs.declared.Date.{Date}
 use Rattle.calendar_dates.specs.Dates.{dateOf, numberOf, isDate}
 use Rattle.calendar_dates.proofs.Dates.{parts, day-of-year-range}
 use Rattle.calendar_dates.proofs.NextDay.{next-day-counts}
-use Rattle.calendar_laws.specs.Dates.{EveryDate}
+use Rattle.calendar_laws.specs.Dates.{DatesCounted}
 
 -- the parts of a date's number are the date's
 numbered : (d : Date) → isDate d ≡ true → dateOf (numberOf d) ≡ d
@@ -18,9 +18,9 @@ numbered d h =
     let day : numberOf d % 100 ≡ d .day = omega (arith, p) in
     rw (year, month, day)
 
-pub every-date : EveryDate
-unfolding EveryDate
-every-date = (
+pub dates-counted : DatesCounted
+unfolding DatesCounted
+dates-counted = (
   λ d h.
       let range = day-of-year-range d h in
       let next = next-day-counts d h in

@@ -9,7 +9,7 @@ use Rattle.calendar_dates.specs.Dates.{isDate, dayNumber, nextDay, daysLater, A
 use Rattle.calendar_dates.proofs.Dates.{parts}
 use Rattle.calendar_dates.proofs.NextDay.{next-day-counts}
 use Rattle.calendar_period.specs.Period.{daysOf}
-use Rattle.calendar_laws.specs.Periods.{PeriodDays, EveryPeriod}
+use Rattle.calendar_laws.specs.Periods.{PeriodDays, PeriodsCounted}
 use Rattle.calendar_laws.proofs.Order.{same-order, same-day}
 
 -- one date more, before the others
@@ -38,6 +38,6 @@ period-days first last p q h =
     let r = reached n first last p q (omega arith) in
     record { dates = rw (← all) (r .0); ends = rw (← one) (r .1) }
 
-pub every-period : EveryPeriod
-unfolding EveryPeriod
-every-period first last p q = (same-order first last p q, period-days first last p q)
+pub periods-counted : PeriodsCounted
+unfolding PeriodsCounted
+periods-counted first last p q = (same-order first last p q, period-days first last p q)

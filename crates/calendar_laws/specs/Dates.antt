@@ -15,5 +15,5 @@ pub record DateFacts (d : Date) : Type 0 where
   pub nextLater : numberOf d < numberOf (nextDay d)
   pub nextIsDate : numberOf d < 20991231 → isDate (nextDay d) ≡ true
 
-unfoldable pub EveryDate : Type 0
-EveryDate = ((d : Date) → isDate d ≡ true → DateFacts d) × ((n : ℕ) → numberOf (dateOf n) ≡ n)
+unfoldable pub DatesCounted : Type 0
+DatesCounted = ((d : Date) → isDate d ≡ true → DateFacts d) × ((n : ℕ) → numberOf (dateOf n) ≡ n)

@@ -17,7 +17,7 @@ pub record PeriodDays (first last : Date) : Type 0 where
   pub ends : daysLater (daysOf first last - 1) first ≡ last
 
 -- the theorem. Proved in proofs/Order.antt and proofs/Periods.antt.
-unfoldable pub EveryPeriod : Type 0
-EveryPeriod =
+unfoldable pub PeriodsCounted : Type 0
+PeriodsCounted =
     (first last : Date) → isDate first ≡ true → isDate last ≡ true →
     SameOrder first last × (dayNumber first ≤ dayNumber last → PeriodDays first last)

@@ -27,6 +27,6 @@ abbrev pub periodCheck : ℕ → ℕ → Verdict
 periodCheck first last = dateQuestion first 0 then dateQuestion last 1 then periodQuestion (dateOf first) (dateOf last)
 
 -- the values of n days from a date on
-unfoldable pub valuesOfDays : ℕ → Date → ℕ
-valuesOfDays zero d = 0
-valuesOfDays (suc n) d = valueCount d + valuesOfDays n (nextDay d)
+unfoldable pub countOfDays : ℕ → Date → ℕ
+countOfDays zero d = 0
+countOfDays (suc n) d = valueCount d + countOfDays n (nextDay d)

@@ -40,15 +40,15 @@ unfoldable pub dayEnquiry : ℕ → List ℕ → DayAnswer
 dayEnquiry date holidays = answered (dayCheck date holidays) (describe (dateOf date) holidays)
 
 -- the seasons' figures are our choice, by the order of the tables in the file; "day type (1 weekday, 2 Saturday, 3 Sunday)"
-abbrev pub seasonFigure : Season → ℕ
-seasonFigure Season.Winter = 1
-seasonFigure Season.Summer = 2
-seasonFigure Season.Transition = 3
+abbrev pub seasonDigit : Season → ℕ
+seasonDigit Season.Winter = 1
+seasonDigit Season.Summer = 2
+seasonDigit Season.Transition = 3
 
-abbrev pub dayTypeFigure : DayType → ℕ
-dayTypeFigure DayType.Weekday = 1
-dayTypeFigure DayType.Saturday = 2
-dayTypeFigure DayType.Sunday = 3
+abbrev pub dayTypeDigit : DayType → ℕ
+dayTypeDigit DayType.Weekday = 1
+dayTypeDigit DayType.Saturday = 2
+dayTypeDigit DayType.Sunday = 3
 
 -- the figures for each case of the answer: an accepted enquiry has number and place 0
 abbrev pub reportedDay : Day → DayReport
@@ -58,8 +58,8 @@ reportedDay day =
       place = 0;
       weekday = day .weekday;
       t = day .t;
-      season = seasonFigure (day .season);
-      «day_type» = dayTypeFigure (day .«day_type»);
+      season = seasonDigit (day .season);
+      «day_type» = dayTypeDigit (day .«day_type»);
       values = day .values;
     }
 

@@ -8,7 +8,7 @@ use refusal::Verdict;
 ghost use mathlib.Core.Path.{_≡_};
 ghost use mathlib.Core.Bool.{true};
 ghost use Rattle.calendar_dates.specs.Dates.{isDate};
-ghost use Rattle.call_day.specs.Enquiry.{describe, dayEnquiry, seasonFigure, dayTypeFigure, reportedDay, reportedRefusal, reported};
+ghost use Rattle.call_day.specs.Enquiry.{describe, dayEnquiry, seasonDigit, dayTypeDigit, reportedDay, reportedRefusal, reported};
 
 pub struct Day {
     pub weekday: u32,
@@ -46,7 +46,7 @@ fn describe(d: Date, holidays: &[u32]) -> Day
         t: calendar_dates::day_of_year(d),
         season: calendar_days::season_of(d),
         day_type: calendar_days::day_type_of(d, weekday, holidays),
-        values: calendar_days::values_under(calendar_days::clock_of(d, weekday)),
+        values: calendar_days::count_under(calendar_days::clock_of(d, weekday)),
     }
 }
 
@@ -66,8 +66,8 @@ pub fn enquire(date: u32, holidays: &[u32]) -> DayAnswer
 }
 
 // 1 winter, 2 summer, 3 transition: the order of the tables in the profile file.
-pub fn season_figure(s: Season) -> u32
-    ensures { λ r. ⌜ r ≡ seasonFigure s ⌝ }
+pub fn season_digit(s: Season) -> u32
+    ensures { λ r. ⌜ r ≡ seasonDigit s ⌝ }
 {
     match s {
         Season::Winter => 1,
@@ -77,8 +77,8 @@ pub fn season_figure(s: Season) -> u32
 }
 
 // 1 weekday, 2 Saturday, 3 Sunday.
-pub fn day_type_figure(d: DayType) -> u32
-    ensures { λ r. ⌜ r ≡ dayTypeFigure d ⌝ }
+pub fn day_type_digit(d: DayType) -> u32
+    ensures { λ r. ⌜ r ≡ dayTypeDigit d ⌝ }
 {
     match d {
         DayType::Weekday => 1,
@@ -97,8 +97,8 @@ fn report_day(day: Day) -> DayReport
         place: 0,
         weekday: day.weekday,
         t: day.t,
-        season: season_figure(season),
-        day_type: day_type_figure(day_type),
+        season: season_digit(season),
+        day_type: day_type_digit(day_type),
         values: day.values,
     }
 }

@@ -14,7 +14,7 @@ use Rattle.refusal.specs.declared.Verdict.the-variants.{Pass}
 use Rattle.refusal.specs.Questions.{roomQuestion}
 use Rattle.calendar_dates.specs.Dates.{dateOf}
 use Rattle.calendar_period.specs.declared.CalendarDay.{CalendarDay}
-use Rattle.calendar_period.specs.Period.{daysOf, valuesOfDays}
+use Rattle.calendar_period.specs.Period.{daysOf, countOfDays}
 use Rattle.calendar_period.specs.Inside.{calendarDay, RealDays}
 use Rattle.calendar_laws.proofs.Periods.{period-days}
 use Rattle.file_layout.specs.Header.{layoutOf}
@@ -47,14 +47,14 @@ answers-refused given h = rw h
 
 -- a group's values in an accepted file: 864, none above 20,000
 module _ (file : List ℕ) (group : ℕ) (c : Checked file group) where
-  value-small : (i : ℕ) (b : Bool) → ltb i (layoutOf file .values) ≡ b → getD (tableOf file group) i 0 ≤ 20_000
+  value-small : (i : ℕ) (b : Bool) → ltb i (layoutOf file .entries) ≡ b → getD (tableOf file group) i 0 ≤ 20_000
   value-small i true h = table-bound file group i 0 c (ltb-true _ _ h)
   value-small i false h =
-      omega (arith, List·getD-eq-default (tableOf file group) 0 {n = i} (omega (arith, table-length file group, ltb-false i (layoutOf file .values) h)))
+      omega (arith, List·getD-eq-default (tableOf file group) 0 {n = i} (omega (arith, table-length file group, ltb-false i (layoutOf file .entries) h)))
 
   pub table-values : GroupValues (tableOf file group)
   unfolding layoutOf
-  table-values = record { whole = table-length file group; small = λ i. value-small i (ltb i (layoutOf file .values)) refl }
+  table-values = record { whole = table-length file group; small = λ i. value-small i (ltb i (layoutOf file .entries)) refl }
 
 -- a request that was opened
 pub record OpenedFor (q : Request) (o : Opening) : Type 0 where
@@ -87,7 +87,7 @@ opened-for q {o} h =
 
 module _ (q : Request) {o : Opening} (opened : OpenedFor q o) where
   -- question 12, of the days' quarter hours
-  pub room-needed : (room : ℕ) → roomQuestion (valuesOfDays (o .days) (o .first .date)) room ≡ roomQuestion (length (series q)) room
+  pub room-needed : (room : ℕ) → roomQuestion (countOfDays (o .days) (o .first .date)) room ≡ roomQuestion (length (series q)) room
   room-needed room = rw (opened .day, opened .count, entries-needed q)
 
   -- the values at the group's place are the request's, and so are the quarter hours made of them

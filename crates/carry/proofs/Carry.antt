@@ -8,7 +8,7 @@ use native.Mathlib.Nat.{mul-add, mul-comm, mul-zero}
 use lib.ListN.{length, take, drop}
 use Rattle.lists.specs.Lists.{sum}
 use Rattle.lists.proofs.Sums.{sum-append}
-use Rattle.carry.specs.Carry.{largestCarry, figures, lastCarry, EveryCut}
+use Rattle.carry.specs.Carry.{largestCarry, figures, lastCarry, RunsJoin}
 
 pub figures-append : (yearly : ℕ) (first second : List ℕ) (carry : ℕ) → figures yearly (first ++ second) carry ≡ figures yearly first carry ++ figures yearly second (lastCarry yearly first carry)
 unfolding figures lastCarry
@@ -38,9 +38,9 @@ telescope yearly carry [] = omega (arith, mul-zero yearly)
 telescope yearly carry (p ∷ powers) =
     omega (arith, telescope yearly ((p * yearly + carry) % 40_000) powers, mul-add yearly p (sum powers), mul-comm yearly p)
 
-pub every-cut : EveryCut
-unfolding EveryCut
-every-cut = (
+pub runs-join : RunsJoin
+unfolding RunsJoin
+runs-join = (
   λ yearly carry first second.
       let join = figures-append yearly first second carry in
       record {

@@ -30,7 +30,7 @@ pub record Joined (yearly carry : ℕ) (first second : List ℕ) : Type 0 where
   pub carryHandedOn : lastCarry yearly (first ++ second) carry ≡ lastCarry yearly second (lastCarry yearly first carry)
 
 -- the theorem: it is so at every cut, and the carry stays in its range. Proved in proofs/Carry.antt.
-unfoldable pub EveryCut : Type 0
-EveryCut =
+unfoldable pub RunsJoin : Type 0
+RunsJoin =
     ((yearly carry : ℕ) (first second : List ℕ) → Joined yearly carry first second)
     × ((yearly carry : ℕ) (powers : List ℕ) → carry ≤ largestCarry → lastCarry yearly powers carry ≤ largestCarry)

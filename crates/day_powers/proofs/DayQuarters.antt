@@ -15,14 +15,14 @@ use Rattle.calendar_dates.specs.declared.Date.{Date}
 use Rattle.calendar_dates.specs.Dates.{dayOfYear}
 use Rattle.calendar_days.specs.declared.Clock.{Clock}
 use Rattle.calendar_days.specs.declared.Clock.the-variants.{Unchanged, Forward, Back}
-use Rattle.calendar_days.specs.Days.{season, dayType, clock, positions, valuesUnder}
+use Rattle.calendar_days.specs.Days.{season, dayType, clock, positions, countUnder}
 use Rattle.calendar_laws.specs.Positions.{CountedPositions}
 use Rattle.calendar_laws.proofs.Positions.{counted-positions}
 use Rattle.dynamisation.specs.Dynamisation.{X, F, Q}
 use Rattle.dynamisation_laws.specs.Rounding.{Roundings}
 use Rattle.dynamisation_laws.proofs.Rounding.{roundings}
 use Rattle.carry.specs.Energy.{Quarter, powers, Rounded, Unrounded}
-use Rattle.day_powers.specs.DayTable.{tableIndex, tableAt, dayValues}
+use Rattle.day_powers.specs.DayTable.{dayTableIndex, dayTableAt, dayValues}
 use Rattle.day_powers.specs.Inside.{powersBy}
 use Rattle.day_powers.specs.DayQuarters.{Basis, basis, quarter, dayQuarters}
 use Rattle.day_powers.proofs.DayTable.{places, length-table, getD-powers}
@@ -44,22 +44,22 @@ module _ {A B : Type 0} (f : A → B) where
 
 -- no power of a table is above 40,000, where no value and no factor is above 20,000
 pub powers-small : (values : List ℕ) (index f : ℕ) → ((i : ℕ) → getD values i 0 ≤ 20_000) → f ≤ 20_000 →
-    (i : ℕ) → getD (powersBy f (tableAt index values)) i 0 ≤ 40_000
+    (i : ℕ) → getD (powersBy f (dayTableAt index values)) i 0 ≤ 40_000
 unfolding Q
 powers-small values index f h k i =
-    let p = getD (tableAt index values) i 0 in
+    let p = getD (dayTableAt index values) i 0 in
     let small : p ≤ 20_000 = take-small 96 20_000 (drop (index * 96) values) (λ j. rw getD-drop (h _)) i in
     let product : p * f ≤ 20_000 * 20_000 = mul-le-mul small k in
-    omega (arith, getD-powers f (tableAt index values) i)
+    omega (arith, getD-powers f (dayTableAt index values) i)
 
 pub length-day-values : (values holidays : List ℕ) (d : Date) → length values ≡ 864 → length (dayValues values holidays d) ≡ 96
 unfolding dayValues
 length-day-values values holidays d h =
     let both = places (season d) (dayType d holidays) in
-    length-table (tableIndex (season d) (dayType d holidays)) values (omega arith)
+    length-table (dayTableIndex (season d) (dayType d holidays)) values (omega arith)
 
 module _ (b : Basis) (d : Date) where
-  pub length-day-quarters : length (b .values) ≡ 864 → length (dayQuarters b d) ≡ valuesUnder (clock d)
+  pub length-day-quarters : length (b .values) ≡ 864 → length (dayQuarters b d) ≡ countUnder (clock d)
   unfolding dayQuarters CountedPositions
   length-day-quarters h =
       counted-positions Quarter (clock d) _ (length-map (dayValues (b .values) (b .holidays) d) _ ∙ length-day-values (b .values) (b .holidays) d h)

@@ -12,8 +12,8 @@ use Rattle.calendar_days.specs.declared.Season.the-variants.{Winter, Summer, Tr
 use Rattle.calendar_days.specs.declared.DayType.{DayType}
 use Rattle.calendar_days.specs.declared.DayType.the-variants.{Weekday, Saturday, Sunday}
 use Rattle.dynamisation.specs.Dynamisation.{Q}
-use Rattle.day_powers.specs.DayTable.{seasonPlace, dayTypePlace, tableAt}
-use Rattle.day_powers.specs.Inside.{TableInside, powersBy}
+use Rattle.day_powers.specs.DayTable.{seasonPlace, dayTypePlace, dayTableAt}
+use Rattle.day_powers.specs.Inside.{DayTableInside, powersBy}
 
 -- both places are at most 2
 season-place : (s : Season) → seasonPlace s ≤ 2
@@ -29,7 +29,7 @@ day-type-place Sunday = omega arith
 pub places : (s : Season) (d : DayType) → (seasonPlace s ≤ 2) × (dayTypePlace d ≤ 2)
 places s d = (season-place s, day-type-place d)
 
-pub length-table : (index : ℕ) (values : List ℕ) → (index + 1) * 96 ≤ length values → length (tableAt index values) ≡ 96
+pub length-table : (index : ℕ) (values : List ℕ) → (index + 1) * 96 ≤ length values → length (dayTableAt index values) ≡ 96
 length-table index values h = simp (length-take, length-drop) (omega arith)
 
 -- each power; behind the last one both sides are 0
@@ -39,12 +39,12 @@ getD-powers f values i =
     let none : 0 ≡ Q 0 f = omega arith in
     ap (getD (powersBy f values) i) none ∙ List·getD-map (λ p. Q p f) values i 0
 
-module _ {index : ℕ} {values : List ℕ} (t : TableInside index values) where
-  pub length-powers : (f : ℕ) → length (powersBy f (tableAt index values)) ≡ 96
-  length-powers f = length-map (tableAt index values) (λ p. Q p f) ∙ length-table index values (t .inside)
+module _ {index : ℕ} {values : List ℕ} (t : DayTableInside index values) where
+  pub length-powers : (f : ℕ) → length (powersBy f (dayTableAt index values)) ≡ 96
+  length-powers f = length-map (dayTableAt index values) (λ p. Q p f) ∙ length-table index values (t .inside)
 
   -- the power of position i
-  pub power-at : (i : ℕ) {at : ℕ} → i < 96 → at ≡ index * 96 + i → (f : ℕ) → getD (powersBy f (tableAt index values)) i 0 ≡ Q (getD values at 0) f
+  pub power-at : (i : ℕ) {at : ℕ} → i < 96 → at ≡ index * 96 + i → (f : ℕ) → getD (powersBy f (dayTableAt index values)) i 0 ≡ Q (getD values at 0) f
   power-at i h e f = rw (getD-powers, getD-take 96 (drop (index * 96) values) i 0 h, getD-drop, e)
 
 -- the powers stored so far are those wanted: one more, and all

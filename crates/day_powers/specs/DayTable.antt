@@ -22,16 +22,16 @@ dayTypePlace DayType.Saturday = 1
 dayTypePlace DayType.Sunday = 2
 
 -- which of the nine day tables, from 0
-abbrev pub tableIndex : Season → DayType → ℕ
-tableIndex s d = seasonPlace s * 3 + dayTypePlace d
+abbrev pub dayTableIndex : Season → DayType → ℕ
+dayTableIndex s d = seasonPlace s * 3 + dayTypePlace d
 
-abbrev pub tableOfKind : DayKind → ℕ
-tableOfKind kind = tableIndex (kind .season) (kind .«day_type»)
+abbrev pub dayTableOf : DayKind → ℕ
+dayTableOf kind = dayTableIndex (kind .season) (kind .«day_type»)
 
 -- the 96 values of a day table
-abbrev pub tableAt : ℕ → List ℕ → List ℕ
-tableAt index values = take 96 (drop (index * 96) values)
+abbrev pub dayTableAt : ℕ → List ℕ → List ℕ
+dayTableAt index values = take 96 (drop (index * 96) values)
 
 -- the 96 values of a day, out of its group's values
 unfoldable pub dayValues : List ℕ → List ℕ → Date → List ℕ
-dayValues values holidays d = tableAt (tableOfKind (dayKind d holidays)) values
+dayValues values holidays d = dayTableAt (dayTableOf (dayKind d holidays)) values

@@ -5,7 +5,7 @@ use lib.ListN.{length, getD}
 use Rattle.dynamisation.specs.Dynamisation.{Q}
 
 -- what is asked of a group's values: the day table lies inside, and no value is above 20,000
-pub record TableInside (index : ℕ) (values : List ℕ) : Type 0 where
+pub record DayTableInside (index : ℕ) (values : List ℕ) : Type 0 where
   pub inside : (index + 1) * 96 ≤ length values
   pub small : (i : ℕ) → getD values i 0 ≤ 20_000
 

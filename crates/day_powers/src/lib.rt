@@ -3,8 +3,8 @@ use calendar_days::DayType;
 use calendar_days::Season;
 ghost use mathlib.Core.Path.{_≡_};
 ghost use Prim.Native.Nat.{_≤_, _<_};
-ghost use Rattle.day_powers.specs.DayTable.{seasonPlace, dayTypePlace, tableIndex, tableAt};
-ghost use Rattle.day_powers.specs.Inside.{TableInside, powersBy};
+ghost use Rattle.day_powers.specs.DayTable.{seasonPlace, dayTypePlace, dayTableIndex, dayTableAt};
+ghost use Rattle.day_powers.specs.Inside.{DayTableInside, powersBy};
 
 // The seasons' order in the file.
 fn season_place(season: Season) -> usize
@@ -29,17 +29,17 @@ fn day_type_place(day_type: DayType) -> usize
 }
 
 // Which of the nine day tables of a group, from 0.
-pub fn table_index(season: Season, day_type: DayType) -> usize
-    ensures { λ r. ⌜ (r ≡ tableIndex season «day_type») × (r < 9) ⌝ }
+pub fn day_table_index(season: Season, day_type: DayType) -> usize
+    ensures { λ r. ⌜ (r ≡ dayTableIndex season «day_type») × (r < 9) ⌝ }
 {
     season_place(season) * 3 + day_type_place(day_type)
 }
 
 // The powers of a day table's 96 values, for one factor. `values` are a group's.
 pub fn powers_of(values: &[u16], table: usize, f: u32) -> [u32; 96]
-    requires { ⌜ TableInside table (now values) ⌝ }
+    requires { ⌜ DayTableInside table (now values) ⌝ }
     requires { ⌜ f ≤ 20_000 ⌝ }
-    ensures { λ r. ⌜ r ≡ powersBy f (tableAt table (now (values .entry))) ⌝ }
+    ensures { λ r. ⌜ r ≡ powersBy f (dayTableAt table (now (values .entry))) ⌝ }
 {
     let mut powers = [0; 96];
     let mut i: usize = 0;

@@ -80,7 +80,7 @@ fn write_day(day: Day) {
     lines::write_next(day.weekday as u64);
     lines::write_next(day.t as u64);
     io::write_all(STDOUT_FILENO, &[b' ', season_letter(season)]);
-    lines::write_number(call_day::day_type_figure(day_type) as u64);
+    lines::write_number(call_day::day_type_digit(day_type) as u64);
     lines::write_next(day.values as u64);
 }
 

@@ -38,14 +38,14 @@ abbrev pub profileAt : Layout → ℕ → ℕ
 profileAt layout k = headerLength + k * profileLength layout
 
 -- every value is at most 20,000
-pub value-bound : (file : List ℕ) → Accepted file → (k i : ℕ) → k < layoutOf file .count → i < layoutOf file .values →
+pub value-bound : (file : List ℕ) → Accepted file → (k i : ℕ) → k < layoutOf file .count → i < layoutOf file .entries →
     wordAt file (profileAt (layoutOf file) k + layoutOf file .before + i * 2) ≤ 20_000
 unfolding profileValuesQuestion valueQuestion
 value-bound file a k i hk hi =
     let layout = layoutOf file in
     let at = profileAt layout k + layout .before in
     let profile = each-passed (profileValuesQuestion layout file) (profileLength layout) (layout .count) headerLength k (a .values) hk in
-    leb-true _ _ (ask-passed _ (BadValue (at + i * 2)) (each-passed (valueQuestion file) 2 (layout .values) at i profile hi))
+    leb-true _ _ (ask-passed _ (BadValue (at + i * 2)) (each-passed (valueQuestion file) 2 (layout .entries) at i profile hi))
 
 -- codes are 0 to 10, "each above the one before"
 module _ (file : List ℕ) (a : Accepted file) (k : ℕ) (below : k < layoutOf file .count) where

@@ -14,8 +14,8 @@ use Rattle.file_compare.specs.declared.Comparison.the-variants.{Alike, D
 use Rattle.file_compare.specs.Comparing.{compareCheck, same, comparison, reportedComparison}
 
 -- an answer is also given in figures
-pub in-figures : {answer is : Comparison} → answer ≡ is → (answer ≡ is) × (reportedComparison answer ≡ reportedComparison is)
-in-figures h = (h, ap reportedComparison h)
+pub as-reported : {answer is : Comparison} → answer ≡ is → (answer ≡ is) × (reportedComparison answer ≡ reportedComparison is)
+as-reported h = (h, ap reportedComparison h)
 
 module _ (file : List ℕ) (first second : ℕ) where
   -- the questions of the first group alone decide, then those of the second

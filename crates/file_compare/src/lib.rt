@@ -52,8 +52,8 @@ pub fn compare(file: &[u8], first: u8, second: u8) -> Comparison
         Found::Refused(refusal) => return Comparison::Refused(refusal),
     };
     if same_values(
-        file_group::values_of(file, a),
-        file_group::values_of(file, b),
+        file_group::value_bytes(file, a),
+        file_group::value_bytes(file, b),
     ) {
         Comparison::Alike
     } else {

@@ -125,15 +125,15 @@ pub check-passed : (file : List ℕ) (group : ℕ) → check file group ≡ Pass
 check-passed file group h =
     checked file group 0 (then-first (fileCheck file) _ h) (then-next (fileCheck file) _ h)
 
-pub table-length : (file : List ℕ) (group : ℕ) → length (tableOf file group) ≡ layoutOf file .values
+pub table-length : (file : List ℕ) (group : ℕ) → length (tableOf file group) ≡ layoutOf file .entries
 table-length file group = length-places (wordAt file) 2 _ _
 
 -- "A value P is .. 0 to 20,000"
-pub table-bound : (file : List ℕ) (group i d : ℕ) → Checked file group → i < layoutOf file .values → getD (tableOf file group) i d ≤ 20_000
+pub table-bound : (file : List ℕ) (group i d : ℕ) → Checked file group → i < layoutOf file .entries → getD (tableOf file group) i d ≤ 20_000
 table-bound file group i d c l =
     let layout = layoutOf file in
     let s = c .stands in
-    rw (getD-places (wordAt file) 2 (layout .values) (groupOffset file group + layout .before) i d l, s .place)
+    rw (getD-places (wordAt file) 2 (layout .entries) (groupOffset file group + layout .before) i d l, s .place)
     (value-bound file (accepted file (c .passed)) (s .k) i (s .below) l)
 
 -- "it passed, so it was found": a group whose code stands at `at`, and what its callers need of it
@@ -159,11 +159,11 @@ module _ (file : List ℕ) (group : ℕ) {at : ℕ} (f : FoundAt file group at) 
 
   -- a part of the file that has the group's value bytes
   module _ {part : List ℕ} (bytes : part ≡ valueBytes file at) where
-    pub part-length : length part ≡ layoutOf file .values * 2
+    pub part-length : length part ≡ layoutOf file .entries * 2
     part-length = ap length bytes ∙ (simp (length-take, length-drop) (omega (arith, values-inside .1)))
 
-    pub part-count : length part / 2 ≡ layoutOf file .values
+    pub part-count : length part / 2 ≡ layoutOf file .entries
     part-count = omega (arith, part-length)
 
     pub part-words : wordsOf part ≡ tableOf file group
-    part-words = rw (part-count, bytes, f .place) (words-located file (valuesOffset file group) (layoutOf file .values))
+    part-words = rw (part-count, bytes, f .place) (words-located file (valuesOffset file group) (layoutOf file .entries))

@@ -36,4 +36,4 @@ valuesOffset file group = groupOffset file group + layoutOf file .before
 
 -- a group's 864 values
 abbrev pub tableOf : List ℕ → ℕ → List ℕ
-tableOf file group = wordsFrom file (layoutOf file .values) (valuesOffset file group)
+tableOf file group = wordsFrom file (layoutOf file .entries) (valuesOffset file group)

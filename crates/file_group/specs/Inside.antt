@@ -1,4 +1,4 @@
--- What the functions of this crate, and `values_at` of `file_read`, promise their callers. No definition of document 01.
+-- What the functions of this crate, and `table_at` of `file_read`, promise their callers. No definition of document 01.
 use mathlib.Core.Path.{_≡_}
 use mathlib.Core.List.{List}
 use Prim.Native.Nat.{ℕ, _+_, _*_}
@@ -21,9 +21,9 @@ verdictOf (Found.Refused r) = Refused r
 
 -- the value bytes of the profile whose code stands at `at`
 abbrev pub valueBytes : List ℕ → ℕ → List ℕ
-valueBytes file at = take (layoutOf file .values * 2) (drop (at + layoutOf file .before) file)
+valueBytes file at = take (layoutOf file .entries * 2) (drop (at + layoutOf file .before) file)
 
 -- the same as that part of the file's own memory
-pub record ValuesOf (file : RefT (List ℕ)) (at : ℕ) (part : RefT (List ℕ)) : Type 0 where
+pub record ValueBytesOf (file : RefT (List ℕ)) (at : ℕ) (part : RefT (List ℕ)) : Type 0 where
   pub bytes : now part ≡ valueBytes (now file) at
   pub start : part .ptr ≡ (file .ptr .0, file .ptr .1 + (at + layoutOf (now file) .before))

@@ -8,7 +8,7 @@ ghost use Rattle.refusal.specs.Questions.{reported};
 ghost use Rattle.file_layout.specs.Header.{layoutOf, profileLength};
 ghost use Rattle.file_layout.specs.Inside.{LaidOut};
 ghost use Rattle.file_group.specs.Group.{groupOffset, groupQuestion, check};
-ghost use Rattle.file_group.specs.Inside.{foundBy, verdictOf, ValuesOf};
+ghost use Rattle.file_group.specs.Inside.{foundBy, verdictOf, ValueBytesOf};
 
 // Where a group's code stands in a file, or the refusal.
 pub enum Found {
@@ -64,13 +64,13 @@ pub fn check(file: &[u8], group: u8) -> Verdict
 }
 
 // The value bytes of the profile whose code stands at `at`.
-pub fn values_of(file: &[u8], at: usize) -> &[u8]
+pub fn value_bytes(file: &[u8], at: usize) -> &[u8]
     requires { ⌜ LaidOut (layoutOf (now file)) (now file) ⌝ }
     requires { ⌜ at + profileLength (layoutOf (now file)) ≤ length (now file) ⌝ }
-    ensures { λ r. ⌜ ValuesOf (file .entry) at r ⌝ }
+    ensures { λ r. ⌜ ValueBytesOf (file .entry) at r ⌝ }
 {
     let layout = file_layout::layout_of(file);
     let start = at + layout.before;
-    let end = start + layout.values * 2;
+    let end = start + layout.entries * 2;
     &file[start..end]
 }

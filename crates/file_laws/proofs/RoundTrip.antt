@@ -23,7 +23,7 @@ use Rattle.file_check.proofs.Check.{Accepted, accepted}
 use Rattle.file_group.specs.Group.{groupOffset}
 use Rattle.file_group.proofs.Group.{group-there}
 use Rattle.file_written.specs.Written.{profilesOf, written}
-use Rattle.file_written.proofs.Written.{length-written, code-at, values-at}
+use Rattle.file_written.proofs.Written.{length-written, code-at, table-at}
 use Rattle.file_write_check.specs.WriteCheck.{writeCheck}
 use Rattle.file_write_check.proofs.Passed.{Amounts, amount-passes, Writable, writable}
 use Rattle.file_laws.specs.RoundTrip.{Below, codesFrom, valuesFrom, codesOf, valuesOf, WrittenReadsBack, AcceptedIsRewritten}
@@ -85,18 +85,18 @@ written-reads-back codes values room pass =
           let inside : groupOffset (written codes values) (getD codes i 0) < length (written codes values) =
           omega (arith, at, length-written codes values (w .amount .each)) in (
             then-pass _ (file-passes codes values room w) ∙ group-there (written codes values) (getD codes i 0) 0 inside,
-            ap (λ (offset : ℕ). wordsFrom (written codes values) 864 (offset + 1)) at ∙ values-at codes values (w .amount .each) i h,
+            ap (λ (offset : ℕ). wordsFrom (written codes values) 864 (offset + 1)) at ∙ table-at codes values (w .amount .each) i h,
           ),
     )
 
 -- ---- an accepted file is rewritten to the same bytes
 
 module _ (layout : Layout) (file : List ℕ) where
-  length-values : (n at : ℕ) → length (valuesFrom layout file n at) ≡ n * layout .values
+  length-values : (n at : ℕ) → length (valuesFrom layout file n at) ≡ n * layout .entries
   unfolding valuesFrom
-  length-values zero at = sym (zero-mul (layout .values))
+  length-values zero at = sym (zero-mul (layout .entries))
   length-values (suc n) at =
-      simp (length-append, length-places, length-values n (at + profileLength layout)) (omega (arith, suc-mul n (layout .values)))
+      simp (length-append, length-places, length-values n (at + profileLength layout)) (omega (arith, suc-mul n (layout .entries)))
 
 module _ (file : List ℕ) (bytes : Below 256 file) where
   -- the bytes of the values that stand from `at` on
@@ -112,22 +112,22 @@ module _ (file : List ℕ) (bytes : Below 256 file) where
 
   -- the profiles of the contents that stand from `at` on, up to the file's end
   profiles-back : (layout : Layout) → layout .before ≡ 1 → (n at : ℕ) → at + n * profileLength layout ≡ length file →
-      profilesOf (layout .values) (codesFrom layout file n at) (valuesFrom layout file n at) ≡ drop at file
+      profilesOf (layout .entries) (codesFrom layout file n at) (valuesFrom layout file n at) ≡ drop at file
   unfolding profilesOf eachFrom valuesFrom
   profiles-back layout one zero at e =
       let past : length file ≤ at = omega (arith, zero-mul (profileLength layout)) in
       sym (drop-of-length-le file past)
   profiles-back layout one (suc n) at e =
       let step : ℕ = profileLength layout in
-      let own : List ℕ = wordsFrom file (layout .values) (at + layout .before) in
+      let own : List ℕ = wordsFrom file (layout .entries) (at + layout .before) in
       let others : List ℕ = valuesFrom layout file n (at + step) in
-      let full : length own ≡ layout .values = length-places (wordAt file) 2 (layout .values) (at + layout .before) in
+      let full : length own ≡ layout .entries = length-places (wordAt file) 2 (layout .entries) (at + layout .before) in
       let strides : suc n * step ≡ n * step + step = suc-mul n step in
-      let there : at + step ≡ at + layout .before + layout .values * 2 = omega arith in
+      let there : at + step ≡ at + layout .before + layout .entries * 2 = omega arith in
       let values-here : at + layout .before ≡ suc at = omega arith in
-      rw (take-at own others (layout .values) full, drop-at own others (layout .values) full, profiles-back layout one n (at + step) (omega arith))
+      rw (take-at own others (layout .entries) full, drop-at own others (layout .entries) full, profiles-back layout one n (at + step) (omega arith))
       (ap (λ (k : ℕ). byteAt file at ∷ (bytesOf own ++ drop k file)) there
-      ∙ ap (λ (l : List ℕ). byteAt file at ∷ l) (bytes-back (layout .values) (at + layout .before) (omega arith))
+      ∙ ap (λ (l : List ℕ). byteAt file at ∷ l) (bytes-back (layout .entries) (at + layout .before) (omega arith))
       ∙ ap (λ (k : ℕ). byteAt file at ∷ drop k file) values-here
       ∙ sym (drop-cons file at 0 (omega arith)))
 

@@ -25,7 +25,7 @@ codesFrom layout file n at = eachFrom (byteAt file) (profileLength layout) n at
 unfoldable pub valuesFrom : Layout → List ℕ → ℕ → ℕ → List ℕ
 valuesFrom layout file zero at = []
 valuesFrom layout file (suc n) at =
-    wordsFrom file (layout .values) (at + layout .before) ++ valuesFrom layout file n (at + profileLength layout)
+    wordsFrom file (layout .entries) (at + layout .before) ++ valuesFrom layout file n (at + profileLength layout)
 
 abbrev pub codesOf : List ℕ → List ℕ
 codesOf file = codesFrom (layoutOf file) file (layoutOf file .count) headerLength

@@ -21,11 +21,11 @@ headerLength = 6
 -- what the header says of a version 1 file: its count, and of each profile the bytes before its values, which are the group
 -- code alone, and the number of its values
 unfoldable pub layoutOf : List ℕ → Layout
-layoutOf file = record { count = byteAt file 5; before = 1; values = 864 }
+layoutOf file = record { count = byteAt file 5; before = 1; entries = 864 }
 
 -- "Each profile is 1,729 bytes"
 abbrev pub profileLength : Layout → ℕ
-profileLength layout = layout .before + layout .values * 2
+profileLength layout = layout .before + layout .entries * 2
 
 abbrev pub fileLength : Layout → ℕ
 fileLength layout = headerLength + layout .count * profileLength layout

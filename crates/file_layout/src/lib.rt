@@ -17,7 +17,7 @@ pub const HEADER_LENGTH: usize = 6;
 pub struct Layout {
     pub count: usize,
     pub before: usize,
-    pub values: usize,
+    pub entries: usize,
 }
 
 // What the header says of the profiles.
@@ -28,7 +28,7 @@ pub fn layout_of(file: &[u8]) -> Layout
     Layout {
         count: file[5] as usize,
         before: 1,
-        values: 864,
+        entries: 864,
     }
 }
 
@@ -37,7 +37,7 @@ pub fn profile_length(layout: Layout) -> usize
     requires { ⌜ Sound layout ⌝ }
     ensures { λ r. ⌜ r ≡ profileLength layout ⌝ }
 {
-    layout.before + layout.values * 2
+    layout.before + layout.entries * 2
 }
 
 // Question 1.

@@ -10,7 +10,7 @@ use Rattle.refusal.specs.declared.Refusal.{Refusal}
 use Rattle.refusal.specs.declared.Verdict.the-variants.{Pass, Refused}
 use Rattle.file_layout.specs.Header.{layoutOf}
 use Rattle.file_group.specs.Group.{check}
-use Rattle.file_group.specs.Inside.{valueBytes, ValuesOf}
+use Rattle.file_group.specs.Inside.{valueBytes, ValueBytesOf}
 use Rattle.file_group.proofs.Group.{FoundAt, part-length}
 use Rattle.file_locate.specs.declared.LocatedPart.{LocatedPart}
 use Rattle.file_locate.specs.Locating.{locatedAt, located, Located, locatedPart}
@@ -38,7 +38,7 @@ module _ (file part : RefT (List ℕ)) (group : ℕ) where
         start = s ∙ ap (λ (offset : ℕ). (file .ptr .0, offset)) (add-comm 0 (file .ptr .1) ∙ ap (λ (n : ℕ). file .ptr .1 + n) (sym at));
       }
 
-  pub found-part : {at : ℕ} → check (now file) group ≡ Pass → FoundAt (now file) group at → ValuesOf file at part → Located file group part
+  pub found-part : {at : ℕ} → check (now file) group ≡ Pass → FoundAt (now file) group at → ValueBytesOf file at part → Located file group part
   found-part p found r =
       record {
         bytes = r .bytes ∙ sym (located-found (now file) group p found);
@@ -56,7 +56,7 @@ module _ (file : List ℕ) (group : ℕ) where
   refused-place e = same-place (sym (locatedAt-refused file group e)) (sym (ap length (located-refused file group e)))
 
   pub found-place : {at before values : ℕ} → check file group ≡ Pass → FoundAt file group at →
-      before ≡ layoutOf file .before → values ≡ layoutOf file .values → placed (at + before) (values * 2) ≡ locatedPart file group
+      before ≡ layoutOf file .before → values ≡ layoutOf file .entries → placed (at + before) (values * 2) ≡ locatedPart file group
   found-place {at} p found b v =
       same-place (ap (λ (n : ℕ). at + n) b ∙ sym (locatedAt-found file group p found))
       (ap (λ (n : ℕ). n * 2) v ∙ sym (part-length file group found (located-found file group p found)))

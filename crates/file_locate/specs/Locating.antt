@@ -15,7 +15,7 @@ abbrev pub locatedAt : List ℕ → ℕ → ℕ
 locatedAt file group = onPass (check file group) (valuesOffset file group) 0
 
 abbrev pub located : List ℕ → ℕ → List ℕ
-located file group = onPass (check file group) (take (layoutOf file .values * 2) (drop (locatedAt file group) file)) []
+located file group = onPass (check file group) (take (layoutOf file .entries * 2) (drop (locatedAt file group) file)) []
 
 -- the returned part is the caller's own memory, and no copy
 pub record Located (file : RefT (List ℕ)) (group : ℕ) (part : RefT (List ℕ)) : Type 0 where

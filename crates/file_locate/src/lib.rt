@@ -18,7 +18,7 @@ pub fn locate(file: &[u8], group: u8) -> &[u8]
     let Found::At(at) = file_group::find_checked(file, group) else {
         return nothing;
     };
-    file_group::values_of(file, at)
+    file_group::value_bytes(file, at)
 }
 
 // Where the group's own value bytes begin, and how many they are; both 0 on a refusal.
@@ -35,6 +35,6 @@ pub fn located_part(file: &[u8], group: u8) -> LocatedPart
     let layout = file_layout::layout_of(file);
     LocatedPart {
         offset: at + layout.before,
-        length: layout.values * 2,
+        length: layout.entries * 2,
     }
 }

@@ -20,6 +20,6 @@ module _ (file : List ℕ) (group : ℕ) (table : List ℕ) where
 
   -- and else the group's values fill it
   pub read-filled : {v : Verdict} {after : List ℕ} → v ≡ readCheck file group (length table) → v ≡ Pass →
-      after ≡ tableOf file group ++ drop (layoutOf file .values) table →
+      after ≡ tableOf file group ++ drop (layoutOf file .entries) table →
       (v ≡ readCheck file group (length table)) × ((reported v ≡ reported (readCheck file group (length table))) × (after ≡ tableAfter file group table))
   read-filled e p a = (e, (ap reported e, a ∙ (rw (← e, p, table-length file group))))

@@ -9,7 +9,7 @@ use Rattle.file_group.specs.Group.{check, tableOf}
 
 -- Reading: questions 1 to 6 and 12 ("place = entries needed")
 abbrev pub readCheck : List ℕ → ℕ → ℕ → Verdict
-readCheck file group room = check file group then roomQuestion (layoutOf file .values) room
+readCheck file group room = check file group then roomQuestion (layoutOf file .entries) room
 
 -- the lent table after the call
 abbrev pub tableAfter : List ℕ → ℕ → List ℕ → List ℕ

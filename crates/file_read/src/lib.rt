@@ -29,13 +29,13 @@ fn fill(part: &[u8], table: &mut [u16])
 }
 
 // The values of the profile whose code stands at `at`, by value.
-pub fn values_at(file: &[u8], at: usize) -> [u16; 864]
+pub fn table_at(file: &[u8], at: usize) -> [u16; 864]
     requires { ⌜ LaidOut (layoutOf (now file)) (now file) ⌝ }
     requires { ⌜ at + profileLength (layoutOf (now file)) ≤ length (now file) ⌝ }
     ensures { λ r. ⌜ r ≡ wordsOf (valueBytes (now (file .entry)) at) ⌝ }
 {
     let mut values = [0; 864];
-    fill(file_group::values_of(file, at), &mut values);
+    fill(file_group::value_bytes(file, at), &mut values);
     values
 }
 
@@ -49,10 +49,10 @@ pub fn read(file: &[u8], group: u8, table: &mut [u16]) -> Verdict
     let Found::At(at) = found else {
         return file_group::verdict_of(found);
     };
-    let v = refusal::room_question(file_layout::layout_of(file).values, table.len());
+    let v = refusal::room_question(file_layout::layout_of(file).entries, table.len());
     let Verdict::Pass = v else {
         return v;
     };
-    fill(file_group::values_of(file, at), table);
+    fill(file_group::value_bytes(file, at), table);
     v
 }

@@ -14,7 +14,7 @@ unfoldable pub valueQuestion : List ℕ → ℕ → Verdict
 valueQuestion file at = ask (leb (wordAt file at) 20_000) (BadValue at)
 
 unfoldable pub profileValuesQuestion : Layout → List ℕ → ℕ → Verdict
-profileValuesQuestion layout file at = askEach (valueQuestion file) 2 (layout .values) (at + layout .before)
+profileValuesQuestion layout file at = askEach (valueQuestion file) 2 (layout .entries) (at + layout .before)
 
 abbrev pub valuesQuestion : Layout → List ℕ → Verdict
 valuesQuestion layout file =

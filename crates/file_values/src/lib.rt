@@ -45,10 +45,10 @@ fn profile_values_question(layout: Layout, file: &[u8], at: usize) -> Verdict
     ensures { λ r. ⌜ r ≡ profileValuesQuestion layout (now (file .entry)) at ⌝ }
 {
     // 77 × 256 + 255 is below 20,000
-    if upper_bytes(file, at + layout.before, layout.values) % 256 <= 77 {
+    if upper_bytes(file, at + layout.before, layout.entries) % 256 <= 77 {
         return Verdict::Pass;
     }
-    let mut left = layout.values;
+    let mut left = layout.entries;
     let mut at = at + layout.before;
     while 0 < left {
         let v = value_question(file, at);

@@ -15,7 +15,7 @@ use Rattle.refusal.proofs.Questions.{Asking}
 use Rattle.file_layout.specs.Header.{layoutOf}
 use Rattle.file_values.specs.Values.{valueQuestion, profileValuesQuestion, valuesQuestion}
 use Rattle.file_written.specs.Written.{written}
-use Rattle.file_written.proofs.Written.{values-at}
+use Rattle.file_written.proofs.Written.{table-at}
 
 -- question 5 of value i of a profile
 pub value-asked : (file values : List ℕ) (first : ℕ) → wordsFrom file (length values) first ≡ values → (i : ℕ) →
@@ -47,5 +47,5 @@ unfolding profileValuesQuestion layoutOf
 part-asked codes values each i h from at ef ea part ep told =
     let full : length part ≡ 864 =
     ap length ep ∙ length-take-le 864 (drop from values) (simp length-drop (omega arith)) in
-    let stand : wordsFrom (written codes values) 864 (at + 1) ≡ part = rw (ep, ef, ea) (values-at codes values each i h) in
+    let stand : wordsFrom (written codes values) 864 (at + 1) ≡ part = rw (ep, ef, ea) (table-at codes values each i h) in
     (rw full at told) (written codes values) stand

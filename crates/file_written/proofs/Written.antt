@@ -93,10 +93,10 @@ module _ (codes values : List ℕ) (each : length values ≡ length codes * 864)
       byte-here (written codes values) (6 + i * 1729)
       (written-from i (omega arith) ∙ ap (λ (cs : List ℕ). profilesOf 864 cs (drop (i * 864) values)) (drop-cons codes i 0 h))
 
-  pub values-at : (i : ℕ) → i < length codes →
+  pub table-at : (i : ℕ) → i < length codes →
       wordsFrom (written codes values) 864 (6 + i * 1729 + 1) ≡ take 864 (drop (i * 864) values)
   unfolding profilesOf
-  values-at i h =
+  table-at i h =
       let own : List ℕ = take 864 (drop (i * 864) values) in
       let full : length own ≡ 864 = length-take-le 864 (drop (i * 864) values) (simp length-drop (omega arith)) in
       rw full at

@@ -27,7 +27,7 @@ pub fn put_answer(
         Opened::Request(opening) => opening,
         Opened::Refused(refusal) => return program_refusal::put_refused_line(refusal, page, 0),
     };
-    let values = file_read::values_at(file, opening.at);
+    let values = file_read::table_at(file, opening.at);
     let day = opening.first;
     let days = opening.days;
     let lines = program_listing::list_days(&values, group, day, days, holidays, yearly, 0, page);

@@ -15,8 +15,8 @@ use Rattle.refusal.proofs.Questions.{then-pass, room-enough}
 use Rattle.calendar_dates.specs.declared.Date.{Date}
 use Rattle.calendar_dates.specs.Dates.{dateOf, numberOf, isDate, dayNumber, daysLater}
 use Rattle.calendar_period.specs.Period.{daysOf}
-use Rattle.calendar_laws.specs.Dates.{EveryDate}
-use Rattle.calendar_laws.proofs.Dates.{every-date}
+use Rattle.calendar_laws.specs.Dates.{DatesCounted}
+use Rattle.calendar_laws.proofs.Dates.{dates-counted}
 use Rattle.calendar_laws.proofs.Periods.{period-days}
 use Rattle.carry.specs.Carry.{figures, lastCarry}
 use Rattle.carry.specs.Energy.{Quarter, powers}
@@ -91,8 +91,8 @@ module _ (q : Request) (k : ℕ) (output : List ℕ) (passed : requestCheck q �
 
   -- its number is its date's
   own-date : dateOf (numberOf (dateOfDay q k)) ≡ dateOfDay q k
-  unfolding EveryDate
-  own-date = every-date .0 (dateOfDay q k) real .numbered
+  unfolding DatesCounted
+  own-date = dates-counted .0 (dateOfDay q k) real .numbered
 
   -- its quarter hours are the day's
   own-quarters : quarters (onDay q k output) ≡ dayQuarters (basisOf q) (dateOfDay q k)

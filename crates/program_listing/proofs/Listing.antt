@@ -9,7 +9,7 @@ use Rattle.calendar_dates.specs.Dates.{nextDay}
 use Rattle.calendar_days.specs.declared.DayKind.{DayKind}
 use Rattle.calendar_days.specs.declared.Clock.{Clock}
 use Rattle.calendar_days.specs.declared.Clock.the-variants.{Unchanged, Forward, Back}
-use Rattle.calendar_days.specs.Days.{dayKind, clock, valuesUnder}
+use Rattle.calendar_days.specs.Days.{dayKind, clock, countUnder}
 use Rattle.carry.specs.declared.Totals.{Totals}
 use Rattle.carry.specs.Carry.{lastCarry}
 use Rattle.carry.specs.Energy.{powers}
@@ -39,7 +39,7 @@ length-rows b yearly (suc n) d carry =
     ap suc (length-rows b yearly n (nextDay d) (lastCarry yearly (powers (dayQuarters b d)) carry))
 
 -- the figures of one day are at most 100
-pub values-under-small : (c : Clock) → valuesUnder c ≤ 100
+pub values-under-small : (c : Clock) → countUnder c ≤ 100
 values-under-small Unchanged = omega arith
 values-under-small Forward = omega arith
 values-under-small Back = omega arith

@@ -30,8 +30,8 @@ passed Pass h = refl
 passed (Refused r) h = let z : _≡_ {A = ℕ} 1 0 = h in absurd (omega arith)
 
 -- a verdict answered is also answered in figures
-pub in-figures : {answer verdict : Verdict} → answer ≡ verdict → (answer ≡ verdict) × (reported answer ≡ reported verdict)
-in-figures h = (h, ap reported h)
+pub as-reported : {answer verdict : Verdict} → answer ≡ verdict → (answer ≡ verdict) × (reported answer ≡ reported verdict)
+as-reported h = (h, ap reported h)
 
 -- a refusal is one
 pub is-refused : {v : Verdict} {r : Refusal} → v ≡ Refused r → IsRefused v

@@ -12,7 +12,7 @@ ghost use Rattle.calendar_days.specs.Days.{dayKind};
 ghost use Rattle.calendar_period.specs.Inside.{RealDay, RealDays};
 ghost use Rattle.dynamisation.specs.Dynamisation.{F};
 ghost use Rattle.carry.specs.Energy.{powers};
-ghost use Rattle.day_powers.specs.DayTable.{tableAt, tableOfKind};
+ghost use Rattle.day_powers.specs.DayTable.{dayTableAt, dayTableOf};
 ghost use Rattle.day_powers.specs.Inside.{powersBy};
 ghost use Rattle.day_powers.specs.DayQuarters.{basis, dayQuarters};
 ghost use Rattle.series.specs.Inside.{GroupValues, InList, InRange, Room, Added, Filled};
@@ -35,11 +35,11 @@ pub fn kind_on(day: CalendarDay, holidays: &[u32], place: usize) -> DayKind
 pub fn powers_on(values: &[u16], group: u8, day: CalendarDay, kind: DayKind) -> [u32; 96]
     requires { ⌜ GroupValues (now values) ⌝ }
     requires { ⌜ RealDay day ⌝ }
-    ensures { λ r. ⌜ r ≡ powersBy (F group (dayOfYear (day .date))) (tableAt (tableOfKind kind) (now (values .entry))) ⌝ }
+    ensures { λ r. ⌜ r ≡ powersBy (F group (dayOfYear (day .date))) (dayTableAt (dayTableOf kind) (now (values .entry))) ⌝ }
 {
     let season = kind.season;
     let day_type = kind.day_type;
-    let table = day_powers::table_index(season, day_type);
+    let table = day_powers::day_table_index(season, day_type);
     day_powers::powers_of(values, table, dynamisation::factor(group, day.t))
 }
 
@@ -65,7 +65,7 @@ fn expand_day(
 {
     let clock = calendar_days::clock_of(day.date, day.weekday);
     let at = before.count;
-    let count = at + calendar_days::values_under(clock) as usize;
+    let count = at + calendar_days::count_under(clock) as usize;
     let kind = kind_on(day, holidays, place);
     let carried = carry_day::carry_day(
         powers_on(values, group, day, kind),

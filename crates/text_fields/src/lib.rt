@@ -25,7 +25,7 @@ pub fn put_day_type(kind: DayKind, page: &mut [u8], at: usize) -> usize
     let season = kind.season;
     let day_type = kind.day_type;
     let at = text::put_byte(season_letter(season), page, at);
-    text::put_byte(48 + call_day::day_type_figure(day_type) as u8, page, at)
+    text::put_byte(48 + call_day::day_type_digit(day_type) as u8, page, at)
 }
 
 // Puts a space and a number.

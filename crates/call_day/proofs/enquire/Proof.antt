@@ -17,8 +17,8 @@ use Rattle.call_day.proofs.enquire.Statement.{statement}
 use Rattle.call_day.proofs.enquire.Tie as tie
 
 -- an answer is also given in figures
-in-figures : {answer is : DayAnswer} → answer ≡ is → (answer ≡ is) × (reported answer ≡ reported is)
-in-figures h = (h, ap reported h)
+as-reported : {answer is : DayAnswer} → answer ≡ is → (answer ≡ is) × (reported answer ≡ reported is)
+as-reported h = (h, ap reported h)
 
 -- a refused check answers its refusal, a passed one the description
 module _ (date : ℕ) (holidays : List ℕ) where
@@ -50,7 +50,7 @@ enum-known-refusal c = search needs
 returns : tie.Need-returns
 returns c =
     let told = dated-refused _ _ (sym (c .before .refusal .given .1) ∙ c .before .before .before .date-in .ensures) in
-    in-figures (refused _ _ (refused-first _ told))
+    as-reported (refused _ _ (refused-first _ told))
 
 holidays-question-requires : tie.Need-holidays-question-requires
 holidays-question-requires c κs = search needs
@@ -61,7 +61,7 @@ enum-known-refusal-2 c = search needs
 returns-2 : tie.Need-returns-2
 returns-2 c =
     let asked = c .before .before .before in
-    in-figures (refused _ _ (then-pass _ (passed (asked .before) .0) ∙ sym (asked .holidays-question .ensures) ∙ c .before .refusal2 .given .1))
+    as-reported (refused _ _ (then-pass _ (passed (asked .before) .0) ∙ sym (asked .holidays-question .ensures) ∙ c .before .refusal2 .given .1))
 
 enum-told : tie.Need-enum-told
 enum-told c = search needs
@@ -76,7 +76,7 @@ returns-3 c =
     let asked = c .before .before .before in
     let p = passed (asked .before) in
     let all = then-pass _ (p .0) ∙ sym (asked .holidays-question .ensures) ∙ c .before .enum-told .given .1 in
-    in-figures (described _ _ all (p .1) (c .describe .ensures))
+    as-reported (described _ _ all (p .1) (c .describe .ensures))
 
 pub enquire-spec : {M : Type 1} → statement M
 enquire-spec =

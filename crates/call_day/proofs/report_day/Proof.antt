@@ -4,14 +4,14 @@ use borrow.Author.Needs.{needs}
 use Rattle.call_day.proofs.report_day.Statement.{statement}
 use Rattle.call_day.proofs.report_day.Tie as tie
 
-season-figure-requires : tie.Need-season-figure-requires
-season-figure-requires c κs = search needs
+season-digit-requires : tie.Need-season-digit-requires
+season-digit-requires c κs = search needs
 
-day-type-figure-requires : tie.Need-day-type-figure-requires
-day-type-figure-requires c κs = search needs
+day-type-digit-requires : tie.Need-day-type-digit-requires
+day-type-digit-requires c κs = search needs
 
 returns : tie.Need-returns
-returns c = rw (c .before .season-figure .ensures, c .day-type-figure .ensures)
+returns c = rw (c .before .season-digit .ensures, c .day-type-digit .ensures)
 
 pub report-day-spec : {M : Type 1} → statement M
-report-day-spec = tie.close (tie.spec season-figure-requires day-type-figure-requires returns)
+report-day-spec = tie.close (tie.spec season-digit-requires day-type-digit-requires returns)

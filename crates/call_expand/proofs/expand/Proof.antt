@@ -37,16 +37,16 @@ room : (c : tie.After-room-question) → c .room-question .result ≡ roomQuesti
 room c = c .room-question .ensures ∙ room-needed (asked (of-room c)) (opened (of-room c)) _
 
 -- the group's values were read
-abbrev of-values : tie.After-values-at → tie.After-known-told
+abbrev of-values : tie.After-table-at → tie.After-known-told
 of-values c = of-room (c .before .before .before)
 
-quarters-are : (c : tie.After-values-at) →
-    quartersOfDays (dayQuarters (basis (c .values-at .result) (asked (of-values c) .group) (asked (of-values c) .holidays)))
+quarters-are : (c : tie.After-table-at) →
+    quartersOfDays (dayQuarters (basis (c .table-at .result) (asked (of-values c) .group) (asked (of-values c) .holidays)))
     (of-values c .before .opening .given .0 .0 .days) (of-values c .before .opening .given .0 .0 .first .date)
     ≡ quarters (asked (of-values c))
-quarters-are c = same-quarters (asked (of-values c)) (opened (of-values c)) (c .values-at .ensures)
+quarters-are c = same-quarters (asked (of-values c)) (opened (of-values c)) (c .table-at .ensures)
 
-fits : (c : tie.After-values-at) → length (quarters (asked (of-values c))) ≤ length (asked (of-values c) .output)
+fits : (c : tie.After-table-at) → length (quarters (asked (of-values c))) ≤ length (asked (of-values c) .output)
 fits c =
     rw (← series-length (asked (of-values c)))
     (room-passed _ _ (sym (room (c .before .before .before)) ∙ c .before .enum-told .given .1))
@@ -78,8 +78,8 @@ returns-2 c =
 enum-told : tie.Need-enum-told
 enum-told c = search needs
 
-values-at-requires : tie.Need-values-at-requires
-values-at-requires c κs = values-inside _ _ (opened (of-room (c .before .before)) .found)
+table-at-requires : tie.Need-table-at-requires
+table-at-requires c κs = values-inside _ _ (opened (of-room (c .before .before)) .found)
 
 slice-aggregate-expand-days : tie.Need-slice-aggregate-expand-days
 slice-aggregate-expand-days c = search needs
@@ -89,7 +89,7 @@ expand-days-requires c κs =
     let v = c .before .before in
     let o = opened (of-values v) in
     let s = o .sound in
-    let values = group-values (asked (of-values v)) o (v .values-at .ensures) in
+    let values = group-values (asked (of-values v)) o (v .table-at .ensures) in
     (values, (o .real, (s .holidays, (record { yearlySmall = s .yearly; carrySmall = s .carry }, (rw (quarters-are v) (fits v), o .some)))))
 
 same-length : tie.Need-same-length
@@ -114,7 +114,7 @@ expand-spec =
     enum-known-refusal-2
     returns-2
     enum-told
-    values-at-requires
+    table-at-requires
     slice-aggregate-expand-days
     expand-days-requires
     same-length

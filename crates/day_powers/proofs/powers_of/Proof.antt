@@ -4,7 +4,7 @@ use mathlib.Core.Path.{_≡_, refl, sym, _∙_}
 use Prim.Native.Nat.{_+_, _-_, _*_, _≤_}
 use native.Mathlib.Omega.{arith}
 use lib.ListN.{length, take, length-set}
-use Rattle.day_powers.specs.DayTable.{tableAt}
+use Rattle.day_powers.specs.DayTable.{dayTableAt}
 use Rattle.day_powers.specs.Inside.{powersBy}
 use Rattle.day_powers.proofs.DayTable.{length-powers, power-at, one-more, all-stored}
 use Rattle.day_powers.proofs.powers_of.Statement.{statement}
@@ -15,7 +15,7 @@ Inv-loop values table f powers₀ i₀ at₀ powers i at =
     (i ≤ 96)
     × (at ≡ table * 96 + i)
     × (length powers ≡ 96)
-    × (take i powers ≡ take i (powersBy f (tableAt table values)))
+    × (take i powers ≡ take i (powersBy f (dayTableAt table values)))
 
 abbrev μ-loop : tie.MeasureT-loop
 μ-loop values table f powers₀ i₀ at₀ powers i at = 96 - i

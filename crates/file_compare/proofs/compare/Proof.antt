@@ -9,7 +9,7 @@ use Rattle.file_group.specs.Group.{check}
 use Rattle.file_group.proofs.Group.{found-at, found-refused, FoundAt, found-checked, found-besides, values-inside, part-length, part-words}
 use Rattle.file_compare.specs.declared.Comparison.the-variants.{Alike, Different}
 use Rattle.file_compare.specs.Comparing.{compareCheck, same, comparison}
-use Rattle.file_compare.proofs.Comparing.{in-figures, first-refused, first-passed, not-compared, compared}
+use Rattle.file_compare.proofs.Comparing.{as-reported, first-refused, first-passed, not-compared, compared}
 use Rattle.file_compare.proofs.compare.Statement.{statement}
 use Rattle.file_compare.proofs.compare.Tie as tie
 
@@ -48,7 +48,7 @@ enum-known-refusal c = search needs
 returns : tie.Need-returns
 returns c =
     let told = found-refused _ _ (sym (c .before .refusal .given .1) ∙ c .before .before .before .find-checked .ensures) in
-    in-figures (not-compared _ _ _ (first-refused _ _ _ told))
+    as-reported (not-compared _ _ _ (first-refused _ _ _ told))
 
 find-requires : tie.Need-find-requires
 find-requires c κs = values-inside _ _ (first c) .0
@@ -62,38 +62,38 @@ enum-known-refusal-2 c = search needs
 returns-2 : tie.Need-returns-2
 returns-2 c =
     let told = found-refused _ _ (sym (c .before .refusal2 .given .1) ∙ c .before .before .before .find .ensures) in
-    in-figures (not-compared _ _ _ (first-passed _ _ _ (first-passes (c .before .before .before .before)) ∙ told))
+    as-reported (not-compared _ _ _ (first-passed _ _ _ (first-passes (c .before .before .before .before)) ∙ told))
 
-values-of-requires : tie.Need-values-of-requires
-values-of-requires c κs = values-inside _ _ (first (of-first c))
+value-bytes-requires : tie.Need-value-bytes-requires
+value-bytes-requires c κs = values-inside _ _ (first (of-first c))
 
-values-of-requires-2 : tie.Need-values-of-requires-2
-values-of-requires-2 c κs = values-inside _ _ (second (c .before))
+value-bytes-requires-2 : tie.Need-value-bytes-requires-2
+value-bytes-requires-2 c κs = values-inside _ _ (second (c .before))
 
 same-values-requires : tie.Need-same-values-requires
 same-values-requires c κs =
     let found = c .before .before in
-    part-length _ _ (first (of-first found)) (c .before .values-of .ensures .bytes)
-    ∙ sym (part-length _ _ (second found) (c .values-of2 .ensures .bytes))
+    part-length _ _ (first (of-first found)) (c .before .value-bytes .ensures .bytes)
+    ∙ sym (part-length _ _ (second found) (c .value-bytes2 .ensures .bytes))
 
 -- both parts hold their tables, so what the search for a difference says is the answer
 abbrev of-second : tie.After-same-values → tie.After-known-told3
 of-second c = c .before .before .before
 
 by : (c : tie.After-same-values) (alike : Bool) →
-    alike ≡ same (wordsOf (c .before .before .values-of .result .now)) (wordsOf (c .before .values-of2 .result .now)) →
+    alike ≡ same (wordsOf (c .before .before .value-bytes .result .now)) (wordsOf (c .before .value-bytes2 .result .now)) →
     cond alike Alike Different ≡ comparison (start (of-first (of-second c)) .args .file .now) (start (of-first (of-second c)) .args .first) (start (of-first (of-second c)) .args .second)
 by c alike e =
     let found = of-second c in
-    compared _ _ _ (both-pass found) (c .before .before .values-of .result .now) (c .before .values-of2 .result .now)
-    (part-words _ _ (first (of-first found)) (c .before .before .values-of .ensures .bytes))
-    (part-words _ _ (second found) (c .before .values-of2 .ensures .bytes)) alike e
+    compared _ _ _ (both-pass found) (c .before .before .value-bytes .result .now) (c .before .value-bytes2 .result .now)
+    (part-words _ _ (first (of-first found)) (c .before .before .value-bytes .ensures .bytes))
+    (part-words _ _ (second found) (c .before .value-bytes2 .ensures .bytes)) alike e
 
 returns-3 : tie.Need-returns-3
-returns-3 c = in-figures (by (c .before) true (sym (c .if1 .taken) ∙ c .before .same-values .ensures))
+returns-3 c = as-reported (by (c .before) true (sym (c .if1 .taken) ∙ c .before .same-values .ensures))
 
 returns-4 : tie.Need-returns-4
-returns-4 c = in-figures (by (c .before) false (sym (c .if1 .left) ∙ c .before .same-values .ensures))
+returns-4 c = as-reported (by (c .before) false (sym (c .if1 .left) ∙ c .before .same-values .ensures))
 
 pub compare-spec : {M : Type 1} → statement M
 compare-spec =
@@ -107,8 +107,8 @@ compare-spec =
     enum-known-at-2
     enum-known-refusal-2
     returns-2
-    values-of-requires
-    values-of-requires-2
+    value-bytes-requires
+    value-bytes-requires-2
     same-values-requires
     returns-3
     returns-4)

@@ -1,7 +1,7 @@
 -- `file_group::check` meets its contract: the search's answer without the offset. Assumes nothing.
 use mathlib.Core.Path.{_∙_, ap}
 use borrow.Author.Needs.{needs}
-use Rattle.refusal.proofs.Questions.{in-figures}
+use Rattle.refusal.proofs.Questions.{as-reported}
 use Rattle.file_group.specs.Inside.{verdictOf}
 use Rattle.file_group.proofs.Group.{verdict-of-found}
 use Rattle.file_group.proofs.check.Statement.{statement}
@@ -14,7 +14,7 @@ verdict-of-requires : tie.Need-verdict-of-requires
 verdict-of-requires c κs = search needs
 
 returns : tie.Need-returns
-returns c = in-figures (c .verdict-of .ensures ∙ ap verdictOf (c .before .find-checked .ensures) ∙ verdict-of-found _ _)
+returns c = as-reported (c .verdict-of .ensures ∙ ap verdictOf (c .before .find-checked .ensures) ∙ verdict-of-found _ _)
 
 pub check-spec : {M : Type 1} → statement M
 check-spec = tie.close (tie.spec find-checked-requires verdict-of-requires returns)

@@ -38,11 +38,11 @@ enum-told c = search needs
 returns : tie.Need-returns
 returns c = refused-part _ _ _ (found-refused _ _ (sym (c .enum-told .given .1) ∙ c .before .before .find-checked .ensures)) refl refl
 
-values-of-requires : tie.Need-values-of-requires
-values-of-requires c κs = values-inside _ _ (there c .1)
+value-bytes-requires : tie.Need-value-bytes-requires
+value-bytes-requires c κs = values-inside _ _ (there c .1)
 
 returns-2 : tie.Need-returns-2
-returns-2 c = found-part _ _ _ (there (c .before) .0) (there (c .before) .1) (c .values-of .ensures)
+returns-2 c = found-part _ _ _ (there (c .before) .0) (there (c .before) .1) (c .value-bytes .ensures)
 
 pub locate-spec : {M : Type 1} → statement M
 locate-spec =
@@ -55,5 +55,5 @@ locate-spec =
     enum-known-at
     enum-told
     returns
-    values-of-requires
+    value-bytes-requires
     returns-2)

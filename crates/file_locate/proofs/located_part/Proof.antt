@@ -24,8 +24,8 @@ there c = found-checked _ _ (c .before .at .given .1) (c .before .before .before
 before-is : (c : tie.After-layout-of) → c .layout-of .result .before ≡ layoutOf (start (c .before) .args .file .now) .before
 before-is c = ap (λ (layout : Layout). layout .before) (c .layout-of .ensures .0)
 
-values-are : (c : tie.After-layout-of) → c .layout-of .result .values ≡ layoutOf (start (c .before) .args .file .now) .values
-values-are c = ap (λ (layout : Layout). layout .values) (c .layout-of .ensures .0)
+values-are : (c : tie.After-layout-of) → c .layout-of .result .entries ≡ layoutOf (start (c .before) .args .file .now) .entries
+values-are c = ap (λ (layout : Layout). layout .entries) (c .layout-of .ensures .0)
 
 find-checked-requires : tie.Need-find-checked-requires
 find-checked-requires c κs = search needs

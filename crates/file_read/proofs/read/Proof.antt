@@ -29,10 +29,10 @@ there c = found-checked _ _ (c .before .found .given .1) (c .before .before .bef
 abbrev of-room : tie.After-room-question → tie.After-known-told
 of-room c = c .before .before
 
-asked : (c : tie.After-room-question) → c .room-question .result ≡ roomQuestion (layoutOf (start (of-room c) .args .file .now) .values) (length (start (of-room c) .args .table .now))
+asked : (c : tie.After-room-question) → c .room-question .result ≡ roomQuestion (layoutOf (start (of-room c) .args .file .now) .entries) (length (start (of-room c) .args .table .now))
 asked c =
     c .room-question .ensures
-    ∙ ap (λ (layout : Layout). roomQuestion (layout .values) (length (start (of-room c) .args .table .now))) (c .before .layout-of .ensures .0)
+    ∙ ap (λ (layout : Layout). roomQuestion (layout .entries) (length (start (of-room c) .args .table .now))) (c .before .layout-of .ensures .0)
 
 all-asked : (c : tie.After-room-question) → c .room-question .result ≡ readCheck (start (of-room c) .args .file .now) (start (of-room c) .args .group) (length (start (of-room c) .args .table .now))
 all-asked c = asked c ∙ sym (then-pass _ (there (of-room c) .0))
@@ -71,14 +71,14 @@ enum-told-3 c = search needs
 returns-2 : tie.Need-returns-2
 returns-2 c = read-refused _ _ _ (all-asked (c .before .before)) (is-refused (c .enum-told3 .given .1))
 
-values-of-requires : tie.Need-values-of-requires
-values-of-requires c κs = values-inside _ _ (there (of-room (c .before .before)) .1)
+value-bytes-requires : tie.Need-value-bytes-requires
+value-bytes-requires c κs = values-inside _ _ (there (of-room (c .before .before)) .1)
 
 fill-requires : tie.Need-fill-requires
 fill-requires c κs =
     let passed = c .before .before in
     let room = passed .before .before in
-    omega (arith, part-count _ _ (there (of-room room) .1) (c .before .values-of .ensures .bytes), room-passed _ _ (sym (asked room) ∙ passed .enum-told2 .given .1))
+    omega (arith, part-count _ _ (there (of-room room) .1) (c .before .value-bytes .ensures .bytes), room-passed _ _ (sym (asked room) ∙ passed .enum-told2 .given .1))
 
 same-length : tie.Need-same-length
 same-length c = search needs
@@ -89,7 +89,7 @@ returns-3 c =
     let passed = lent .before in
     let room = passed .before .before in
     let at = there (of-room room) .1 in
-    let bytes = lent .values-of .ensures .bytes in
+    let bytes = lent .value-bytes .ensures .bytes in
     read-filled _ _ _ (all-asked room) (passed .enum-told2 .given .1) (rw (part-words _ _ at bytes, part-count _ _ at bytes) at (c .before .before .fill .ensures))
 
 pub read-spec : {M : Type 1} → statement M
@@ -106,7 +106,7 @@ read-spec =
     enum-told-2
     enum-told-3
     returns-2
-    values-of-requires
+    value-bytes-requires
     fill-requires
     same-length
     returns-3)

@@ -23,7 +23,7 @@ opened : (c : tie.After-known-told) → OpenedFor (given (start c)) (c .before .
 opened c = opened-for (given (start c)) (sym (c .before .opening .given .1) ∙ c .before .before .before .open .ensures)
 
 -- its lines were put
-abbrev of-list : tie.After-list-days → tie.After-values-at
+abbrev of-list : tie.After-list-days → tie.After-table-at
 of-list c = c .before .before .before .before
 
 open-requires : tie.Need-open-requires
@@ -47,8 +47,8 @@ returns c =
     let told = line .before .before .before in
     refused-lines _ (opened-refused _ _ (sym (told .refusal .given .1) ∙ told .before .before .open .ensures)) (line .put-refused-line .ensures)
 
-values-at-requires : tie.Need-values-at-requires
-values-at-requires c κs = values-inside _ _ (opened c .found)
+table-at-requires : tie.Need-table-at-requires
+table-at-requires c κs = values-inside _ _ (opened c .found)
 
 slice-aggregate-list-days : tie.Need-slice-aggregate-list-days
 slice-aggregate-list-days c = search needs
@@ -59,7 +59,7 @@ list-days-requires c κs =
     let o = opened (v .before) in
     let s = o .sound in
     let room = start (v .before) .pre in
-    let values = group-values (given (start (v .before))) o (v .values-at .ensures) in
+    let values = group-values (given (start (v .before))) o (v .table-at .ensures) in
     (values, (o .real, (s .holidays, (record { yearlySmall = s .yearly; carrySmall = s .carry }, omega arith))))
 
 put-last-line-requires : tie.Need-put-last-line-requires
@@ -79,7 +79,7 @@ returns-2 c =
     let q = given (start (v .before)) in
     let o = opened (v .before) in
     accepted-lines q (o .passed)
-    (accepted q (o .passed) (table-is q o (v .values-at .ensures)) (o .day) (o .count) (list .list-days .ensures) (line .put-last-line .ensures) (start (v .before) .pre))
+    (accepted q (o .passed) (table-is q o (v .table-at .ensures)) (o .day) (o .count) (list .list-days .ensures) (line .put-last-line .ensures) (start (v .before) .pre))
 
 pub put-answer-spec : {M : Type 1} → statement M
 put-answer-spec =
@@ -91,7 +91,7 @@ put-answer-spec =
     put-refused-line-requires
     same-length
     returns
-    values-at-requires
+    table-at-requires
     slice-aggregate-list-days
     list-days-requires
     put-last-line-requires

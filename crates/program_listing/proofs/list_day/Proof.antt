@@ -26,8 +26,8 @@ clock-of-requires c κs =
     let real = c .before .before .before .pre .1 .0 in
     (real .real, own-weekday real)
 
-values-under-requires : tie.Need-values-under-requires
-values-under-requires c κs = search needs
+count-under-requires : tie.Need-count-under-requires
+count-under-requires c κs = search needs
 
 cast-values-today : tie.Need-cast-values-today
 cast-values-today c = search needs
@@ -61,7 +61,7 @@ put-day-line-requires c κs =
     let today = c .before .before .before .before .before .before .before in
     let start = today .before .before .before .before .before in
     let few = values-under-small (today .before .clock-of .result) in
-    (start .pre .1 .0 .real, (omega (arith, today .values-under .ensures), omega (arith, start .pre .1 .1 .1 .1 .line)))
+    (start .pre .1 .0 .real, (omega (arith, today .count-under .ensures), omega (arith, start .pre .1 .1 .1 .1 .line)))
 
 same-length : tie.Need-same-length
 same-length c = search needs
@@ -73,14 +73,14 @@ returns c =
     let asked = summed .before in
     let start = of-powers asked in
     day-listed (given start) (start .pre .0) (start .args .day .date) (own asked) (asked .before .before .before .before .clock-of .ensures)
-    (summed .total-day .ensures) (asked .before .before .before .values-under .ensures) (asked .before .kind-on .ensures) (put .put-day-line .ensures)
+    (summed .total-day .ensures) (asked .before .before .before .count-under .ensures) (asked .before .kind-on .ensures) (put .put-day-line .ensures)
 
 pub list-day-spec : {M : Type 1} → statement M
 list-day-spec =
     tie.close
     (tie.spec
     clock-of-requires
-    values-under-requires
+    count-under-requires
     cast-values-today
     add-count
     kind-on-requires

@@ -6,8 +6,8 @@ use Rattle.series.proofs.OneDay.{t-in-year, own-powers}
 use Rattle.series.proofs.powers_on.Statement.{statement}
 use Rattle.series.proofs.powers_on.Tie as tie
 
-table-index-requires : tie.Need-table-index-requires
-table-index-requires c κs = search needs
+day-table-index-requires : tie.Need-day-table-index-requires
+day-table-index-requires c κs = search needs
 
 factor-requires : tie.Need-factor-requires
 factor-requires c κs = t-in-year (c .before .before .pre .1)
@@ -24,8 +24,8 @@ returns c =
     let asked = c .before .before in
     let start = asked .before .before in
     own-powers (start .pre .1) (start .args .values .now) (start .args .group) (start .args .kind)
-    (asked .table-index .ensures .0) (c .before .factor .ensures) (c .powers-of .ensures)
+    (asked .day-table-index .ensures .0) (c .before .factor .ensures) (c .powers-of .ensures)
 
 pub powers-on-spec : {M : Type 1} → statement M
 powers-on-spec =
-    tie.close (tie.spec table-index-requires factor-requires powers-of-requires returns)
+    tie.close (tie.spec day-table-index-requires factor-requires powers-of-requires returns)

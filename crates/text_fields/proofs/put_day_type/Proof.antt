@@ -13,14 +13,14 @@ season-letter-requires c κs = search needs
 put-byte-requires : tie.Need-put-byte-requires
 put-byte-requires c κs = search needs
 
-day-type-figure-requires : tie.Need-day-type-figure-requires
-day-type-figure-requires c κs = search needs
+day-type-digit-requires : tie.Need-day-type-digit-requires
+day-type-digit-requires c κs = search needs
 
 cast-put-byte : tie.Need-cast-put-byte
-cast-put-byte c = omega (arith, c .day-type-figure .ensures, one-digit (c .before .before .before .before .before .before .before .args .kind .«day_type»))
+cast-put-byte c = omega (arith, c .day-type-digit .ensures, one-digit (c .before .before .before .before .before .before .before .args .kind .«day_type»))
 
 add-put-byte : tie.Need-add-put-byte
-add-put-byte c = omega (arith, c .day-type-figure .ensures, one-digit (c .before .before .before .before .before .before .before .args .kind .«day_type»))
+add-put-byte c = omega (arith, c .day-type-digit .ensures, one-digit (c .before .before .before .before .before .before .before .args .kind .«day_type»))
 
 put-byte-requires-2 : tie.Need-put-byte-requires-2
 put-byte-requires-2 c κs = search needs
@@ -33,7 +33,7 @@ returns c =
     let second = c .before .before in
     let digit = second .before .before in
     let first = digit .before .before .before in
-    rw (sym (first .before .before .season-letter .ensures), sym (digit .day-type-figure .ensures))
+    rw (sym (first .before .before .season-letter .ensures), sym (digit .day-type-digit .ensures))
     (put-put (first .put-byte .ensures) (second .put-byte2 .ensures) (omega arith))
 
 pub put-day-type-spec : {M : Type 1} → statement M
@@ -42,7 +42,7 @@ put-day-type-spec =
     (tie.spec
     season-letter-requires
     put-byte-requires
-    day-type-figure-requires
+    day-type-digit-requires
     cast-put-byte
     add-put-byte
     put-byte-requires-2

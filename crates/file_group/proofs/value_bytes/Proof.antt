@@ -1,4 +1,4 @@
--- `file_group::values_of` meets its contract: the layout is the file's own, so the part lies in the file. Assumes nothing.
+-- `file_group::value_bytes` meets its contract: the layout is the file's own, so the part lies in the file. Assumes nothing.
 use mathlib.Core.Path.{_≡_, ap}
 use Prim.Native.Nat.{ℕ}
 use native.Mathlib.Omega.{arith}
@@ -6,14 +6,14 @@ use native.Mathlib.Nat.{add-comm, add-sub-cancel-left}
 use borrow.Author.Needs.{needs}
 use Rattle.file_layout.specs.declared.Layout.{Layout}
 use Rattle.file_layout.specs.Header.{layoutOf}
-use Rattle.file_group.proofs.values_of.Statement.{statement}
-use Rattle.file_group.proofs.values_of.Tie as tie
+use Rattle.file_group.proofs.value_bytes.Statement.{statement}
+use Rattle.file_group.proofs.value_bytes.Tie as tie
 
 before-is : (c : tie.After-layout-of) → c .layout-of .result .before ≡ layoutOf (c .before .before .args .file .now) .before
 before-is c = ap (λ (layout : Layout). layout .before) (c .layout-of .ensures .0)
 
-values-are : (c : tie.After-layout-of) → c .layout-of .result .values ≡ layoutOf (c .before .before .args .file .now) .values
-values-are c = ap (λ (layout : Layout). layout .values) (c .layout-of .ensures .0)
+values-are : (c : tie.After-layout-of) → c .layout-of .result .entries ≡ layoutOf (c .before .before .args .file .now) .entries
+values-are c = ap (λ (layout : Layout). layout .entries) (c .layout-of .ensures .0)
 
 layout-of-requires : tie.Need-layout-of-requires
 layout-of-requires c κs = search needs
@@ -45,8 +45,8 @@ returns c =
       start = rw (before-is l) (ap (λ (offset : ℕ). (file .ptr .0, offset)) (add-comm _ _));
     }
 
-pub values-of-spec : {M : Type 1} → statement M
-values-of-spec =
+pub value-bytes-spec : {M : Type 1} → statement M
+value-bytes-spec =
     tie.close
     (tie.spec
     layout-of-requires
