@@ -7,9 +7,8 @@ use lib.ListN.{length, length-append, length-map}
 use Rattle.calendar_dates.specs.declared.Date.{Date}
 use Rattle.calendar_dates.specs.Dates.{nextDay}
 use Rattle.calendar_days.specs.declared.DayKind.{DayKind}
-use Rattle.calendar_days.specs.declared.Clock.{Clock}
-use Rattle.calendar_days.specs.declared.Clock.the-variants.{Unchanged, Forward, Back}
-use Rattle.calendar_days.specs.Days.{clock, valuesUnder}
+use Rattle.calendar_days.specs.Days.{clock}
+use Rattle.calendar_period.proofs.Period.{clock-small}
 use Rattle.carry.specs.declared.Totals.{Totals}
 use Rattle.carry.specs.Carry.{lastCarry}
 use Rattle.carry.specs.Energy.{powers}
@@ -39,16 +38,11 @@ length-rows b yearly (suc n) d carry =
     ap suc (length-rows b yearly n (nextDay d) (lastCarry yearly (powers (dayQuarters b d)) carry))
 
 -- the figures of one day are at most 100
-pub values-under-small : (c : Clock) → valuesUnder c ≤ 100
-values-under-small Unchanged = omega arith
-values-under-small Forward = omega arith
-values-under-small Back = omega arith
-
 few : (b : Basis) (yearly : ℕ) (d : Date) (carry : ℕ) → length (b .values) ≡ 864 →
     length (dayFigures b yearly d carry) ≤ 100
 few b yearly d carry h =
     let day = dayQuarters b d in
-    let limit = values-under-small (clock d) in
+    let limit = clock-small (clock d) in
     omega (arith, length-figures yearly (powers day) carry, length-map day (λ q. q .power), length-day-quarters b d h)
 
 -- a line, and those behind it
