@@ -31,8 +31,9 @@ pub fn total_day(powers: [u32; 96], clock: Clock, yearly: u32, carry: u32) -> Ca
     let first = sum_range(&powers, 0, carry_day::first_end(clock));
     let second = sum_range(&powers, carry_day::second_start(clock), 96);
     let energy = (first + second) * yearly as u64 + carry as u64;
+    let left = (energy % 40_000) as u32;
     Carried {
         total: energy / 40_000,
-        carry: (energy % 40_000) as u32,
+        carry: left,
     }
 }

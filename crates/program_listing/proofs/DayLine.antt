@@ -9,6 +9,7 @@ use Rattle.calendar_dates.specs.declared.Date.{Date}
 use Rattle.calendar_days.specs.declared.Clock.{Clock}
 use Rattle.calendar_days.specs.declared.DayKind.{DayKind}
 use Rattle.calendar_days.specs.Days.{dayKind, clock, countUnder}
+use Rattle.calendar_period.proofs.Period.{clock-small}
 use Rattle.carry.proofs.Carry.{length-figures}
 use Rattle.carry_quotients.specs.declared.Carried.{Carried}
 use Rattle.carry_total.specs.Inside.{DayTotal}
@@ -20,7 +21,7 @@ use Rattle.program_lines.specs.Lines.{rowOf, dayLine}
 use Rattle.program_listing.specs.declared.Lines.{Lines}
 use Rattle.program_listing.specs.Listing.{dayFigures}
 use Rattle.program_listing.specs.Inside.{DayRoom, DayListed}
-use Rattle.program_listing.proofs.Listing.{values-under-small, day-line-short}
+use Rattle.program_listing.proofs.Listing.{day-line-short}
 
 module _ (b : Basis) (sound : GroupValues (b .values)) (d : Date) {all : List ℕ} {c : Clock} (e : all ≡ powersBefore b d) (k : c ≡ clock d) where
   own-total : {yearly carry : ℕ} {t : Carried} → DayTotal all c yearly carry t → t .total ≡ sum (dayFigures b yearly d carry)
@@ -38,7 +39,7 @@ module _ (b : Basis) (sound : GroupValues (b .values)) (d : Date) {all : List �
   day-listed {yearly} {before} {page} {after} {t} {kind} {n} {r} did same own put =
       let count : n ≡ length (dayPowers b d) = omega (arith, counted b sound d e k, same) in
       let total = own-total did in
-      let small = values-under-small c in
+      let small = clock-small c in
       let short = day-line-short kind d n (t .total) (omega arith) in
       record {
         line = rw (length-figures yearly (dayPowers b d) (before .totals .carry), ← count, ← total, ← own) put;

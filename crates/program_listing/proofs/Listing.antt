@@ -1,15 +1,14 @@
 -- How many rows a period has, and how long the lines are. Assumes nothing.
 use mathlib.Core.Path.{_≡_, refl, ap}
-use Prim.Native.Nat.{ℕ, zero, suc, _*_, _≤_, _<_}
+use mathlib.Core.List.{List, _++_}
+use Prim.Native.Nat.{ℕ, zero, suc, _+_, _*_, _≤_, _<_}
 use native.Mathlib.Omega.{arith}
 use lib.ListN.{length, length-append, length-map}
-use Rattle.lists.specs.Lists.{sum}
 use Rattle.calendar_dates.specs.declared.Date.{Date}
 use Rattle.calendar_dates.specs.Dates.{nextDay}
 use Rattle.calendar_days.specs.declared.DayKind.{DayKind}
-use Rattle.calendar_days.specs.declared.Clock.{Clock}
-use Rattle.calendar_days.specs.declared.Clock.the-variants.{Unchanged, Forward, Back}
-use Rattle.calendar_days.specs.Days.{dayKind, clock, countUnder}
+use Rattle.calendar_days.specs.Days.{clock}
+use Rattle.calendar_period.proofs.Period.{clock-small}
 use Rattle.carry.specs.declared.Totals.{Totals}
 use Rattle.carry.specs.Carry.{lastCarry}
 use Rattle.carry.specs.Energy.{powers}
@@ -17,8 +16,8 @@ use Rattle.carry.proofs.Carry.{length-figures}
 use Rattle.day_powers.specs.DayQuarters.{Basis, dayQuarters}
 use Rattle.day_powers.proofs.DayQuarters.{length-day-quarters}
 use Rattle.text.proofs.Text.{decimal-short, decimal-most}
-use Rattle.program_lines.specs.Lines.{rowOf, dayLine, lastLine}
-use Rattle.program_listing.specs.Listing.{dayFigures, rows, dayLines}
+use Rattle.program_lines.specs.Lines.{Row, rowOf, dayLine, lastLine}
+use Rattle.program_listing.specs.Listing.{dayFigures, dayRow, rows, dayLines}
 
 -- a day's line has at most 39 characters
 pub day-line-short : (kind : DayKind) (d : Date) (count wattHours : ℕ) → count < 1_000 → length (dayLine kind (rowOf d count wattHours)) ≤ 39
@@ -39,29 +38,25 @@ length-rows b yearly (suc n) d carry =
     ap suc (length-rows b yearly n (nextDay d) (lastCarry yearly (powers (dayQuarters b d)) carry))
 
 -- the figures of one day are at most 100
-pub values-under-small : (c : Clock) → countUnder c ≤ 100
-values-under-small Unchanged = omega arith
-values-under-small Forward = omega arith
-values-under-small Back = omega arith
-
 few : (b : Basis) (yearly : ℕ) (d : Date) (carry : ℕ) → length (b .values) ≡ 864 →
     length (dayFigures b yearly d carry) ≤ 100
 few b yearly d carry h =
     let day = dayQuarters b d in
-    let limit = values-under-small (clock d) in
+    let limit = clock-small (clock d) in
     omega (arith, length-figures yearly (powers day) carry, length-map day (λ q. q .power), length-day-quarters b d h)
+
+-- a line, and those behind it
+line-and-rest : (kind : DayKind) (row : Row) (rest : List ℕ) {most : ℕ} → row .count < 1_000 → length rest ≤ most → length (dayLine kind row ++ rest) ≤ 39 + most
+line-and-rest kind row rest h k =
+    omega (arith, length-append (dayLine kind row) rest, day-line-short kind (row .date) (row .count) (row .wattHours) h, k)
 
 pub lines-short : (b : Basis) (yearly n : ℕ) (d : Date) (carry : ℕ) → length (b .values) ≡ 864 →
     length (dayLines (b .holidays) (rows b yearly n d carry)) ≤ 39 * n
 unfolding rows dayLines
 lines-short b yearly zero d carry h = omega arith
 lines-short b yearly (suc n) d carry h =
-    let figs = dayFigures b yearly d carry in
     let next = lastCarry yearly (powers (dayQuarters b d)) carry in
-    let line = day-line-short (dayKind d (b .holidays)) d (length figs) (sum figs) (omega (arith, few b yearly d carry h)) in
-    omega (
-      arith,
-      line,
-      lines-short b yearly n (nextDay d) next h,
-      length-append (dayLine (dayKind d (b .holidays)) (rowOf d (length figs) (sum figs))) (dayLines (b .holidays) (rows b yearly n (nextDay d) next)),
-    )
+    let count : length (dayFigures b yearly d carry) < 1_000 = omega (arith, few b yearly d carry h) in
+    let all : length (dayLines (b .holidays) (rows b yearly (suc n) d carry)) ≤ 39 + 39 * n =
+    line-and-rest _ (dayRow b yearly d carry) _ count (lines-short b yearly n (nextDay d) next h) in
+    omega (arith, all)

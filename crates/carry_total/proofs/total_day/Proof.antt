@@ -51,8 +51,8 @@ mul-energy c = omega (arith, product c)
 add-energy-2 : tie.Need-add-energy-2
 add-energy-2 c = omega (arith, product c, c .before .before .before .before .before .before .pre .inRange)
 
-cast-t18 : tie.Need-cast-t18
-cast-t18 c = search needs
+cast-left : tie.Need-cast-left
+cast-left c = search needs
 
 returns : tie.Need-returns
 returns c =
@@ -74,5 +74,5 @@ total-day-spec =
     add-energy
     mul-energy
     add-energy-2
-    cast-t18
+    cast-left
     returns)

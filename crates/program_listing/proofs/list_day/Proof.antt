@@ -2,10 +2,9 @@
 use mathlib.Core.Path.{_≡_}
 use native.Mathlib.Omega.{arith}
 use borrow.Author.Needs.{needs}
-use Rattle.calendar_period.proofs.Period.{own-weekday}
+use Rattle.calendar_period.proofs.Period.{own-weekday, clock-small}
 use Rattle.day_powers.specs.DayQuarters.{Basis, basis}
 use Rattle.series.proofs.OneDay.{powersBefore, own-kind, powers-asked}
-use Rattle.program_listing.proofs.Listing.{values-under-small}
 use Rattle.program_listing.proofs.DayLine.{total-fits, day-listed}
 use Rattle.program_listing.proofs.list_day.Statement.{statement}
 use Rattle.program_listing.proofs.list_day.Tie as tie
@@ -60,7 +59,7 @@ put-day-line-requires : tie.Need-put-day-line-requires
 put-day-line-requires c κs =
     let today = c .before .before .before .before .before .before .before in
     let start = today .before .before .before .before .before in
-    let few = values-under-small (today .before .clock-of .result) in
+    let few = clock-small (today .before .clock-of .result) in
     (start .pre .1 .0 .real, (omega (arith, today .count-under .ensures), omega (arith, start .pre .1 .1 .1 .1 .line)))
 
 same-length : tie.Need-same-length
