@@ -84,7 +84,7 @@ struct slp_day_report {
     uint32_t t;        /* day of the year, from 1 */
     uint32_t season;   /* 1 winter, 2 summer, 3 transition */
     uint32_t day_type; /* 1 weekday, 2 Saturday, 3 Sunday */
-    uint32_t values;   /* 92, 96 or 100 */
+    uint32_t value_count; /* 92, 96 or 100 */
 };
 
 /* What a series adds up to. */

@@ -22,7 +22,7 @@ fn figures(request: &slp::Request) -> Result<String, slp::Refusal> {
         let Ok(day) = slp::day(date, request.holidays) else {
             continue; // a number between two months is no date
         };
-        for (position, figure) in positions(day.values).zip(&mut figures) {
+        for (position, figure) in positions(day.value_count).zip(&mut figures) {
             text += &format!("{} {} {figure}\n", date_text(date), end_of(position));
         }
     }

@@ -140,7 +140,7 @@ pub struct Day {
     /// The day type.
     pub day_type: DayType,
     /// How many quarter hours the day has: 92, 96 or 100.
-    pub values: u32,
+    pub value_count: u32,
 }
 
 /// What expanding is given beside its output.
@@ -256,7 +256,7 @@ pub fn compare(file: &[u8], first: u8, second: u8) -> Result<bool, Refusal> {
 ///
 /// ```
 /// let day = slp::day(20000326, &[])?;
-/// assert_eq!((day.weekday, day.t, day.values), (7, 86, 92));
+/// assert_eq!((day.weekday, day.t, day.value_count), (7, 86, 92));
 /// assert_eq!((day.season, day.day_type), (slp::Season::Transition, slp::DayType::Sunday));
 /// # Ok::<(), slp::Refusal>(())
 /// ```
@@ -268,25 +268,25 @@ pub fn day(date: u32, holidays: &[u32]) -> Result<Day, Refusal> {
         t: report.t,
         season: season(report.season),
         day_type: day_type(report.day_type),
-        values: report.values,
+        value_count: report.value_count,
     })
 }
 
-fn season(figure: u32) -> Season {
-    match figure {
+fn season(digit: u32) -> Season {
+    match digit {
         1 => Season::Winter,
         2 => Season::Summer,
         3 => Season::Transition,
-        _ => unreachable!("a season is 1 to 3, not {figure}"),
+        _ => unreachable!("a season is 1 to 3, not {digit}"),
     }
 }
 
-fn day_type(figure: u32) -> DayType {
-    match figure {
+fn day_type(digit: u32) -> DayType {
+    match digit {
         1 => DayType::Weekday,
         2 => DayType::Saturday,
         3 => DayType::Sunday,
-        _ => unreachable!("a day type is 1 to 3, not {figure}"),
+        _ => unreachable!("a day type is 1 to 3, not {digit}"),
     }
 }
 

@@ -51,7 +51,7 @@ pub struct DayReport {
     /// 1 weekday, 2 Saturday, 3 Sunday.
     pub day_type: u32,
     /// 92, 96 or 100.
-    pub values: u32,
+    pub value_count: u32,
 }
 
 /// The answer of expanding.

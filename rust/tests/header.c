@@ -61,7 +61,7 @@ static void day_call(void)
     expect("t", day.t, 86);
     expect("season", day.season, 3);
     expect("day type", day.day_type, 3);
-    expect("values", day.values, 92);
+    expect("value count", day.value_count, 92);
 }
 
 static void listing(void)

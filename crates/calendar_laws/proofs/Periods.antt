@@ -9,7 +9,7 @@ use Rattle.calendar_dates.specs.Dates.{isDate, dayNumber, nextDay, daysLater, A
 use Rattle.calendar_dates.proofs.Dates.{parts}
 use Rattle.calendar_dates.proofs.NextDay.{next-day-counts}
 use Rattle.calendar_period.specs.Period.{daysOf}
-use Rattle.calendar_laws.specs.Periods.{PeriodDays, PeriodsCounted}
+use Rattle.calendar_laws.specs.Periods.{DaysCounted, PeriodsCounted}
 use Rattle.calendar_laws.proofs.Order.{same-order, same-day}
 
 -- one date more, before the others
@@ -29,7 +29,7 @@ reached (suc n) first last p q h =
     let rest = reached n (nextDay first) last (next .isDateToo (omega (arith, parts last q))) q (omega arith) in
     (all-more (suc n) first p (rest .0), rest .1)
 
-pub period-days : (first last : Date) → isDate first ≡ true → isDate last ≡ true → dayNumber first ≤ dayNumber last → PeriodDays first last
+pub period-days : (first last : Date) → isDate first ≡ true → isDate last ≡ true → dayNumber first ≤ dayNumber last → DaysCounted first last
 unfolding daysOf
 period-days first last p q h =
     let n = dayNumber last - dayNumber first in

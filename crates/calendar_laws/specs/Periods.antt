@@ -12,7 +12,7 @@ pub record SameOrder (a b : Date) : Type 0 where
   pub byNumber : dayNumber a < dayNumber b → numberOf a < numberOf b
 
 -- counted day by day, a period has only dates and ends on its last one
-pub record PeriodDays (first last : Date) : Type 0 where
+pub record DaysCounted (first last : Date) : Type 0 where
   pub dates : AllDates (daysOf first last) first
   pub ends : daysLater (daysOf first last - 1) first ≡ last
 
@@ -20,4 +20,4 @@ pub record PeriodDays (first last : Date) : Type 0 where
 unfoldable pub PeriodsCounted : Type 0
 PeriodsCounted =
     (first last : Date) → isDate first ≡ true → isDate last ≡ true →
-    SameOrder first last × (dayNumber first ≤ dayNumber last → PeriodDays first last)
+    SameOrder first last × (dayNumber first ≤ dayNumber last → DaysCounted first last)

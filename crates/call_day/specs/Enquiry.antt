@@ -24,7 +24,7 @@ describe d holidays =
       t = dayOfYear d;
       season = season d;
       «day_type» = dayType d holidays;
-      values = valueCount d;
+      «value_count» = valueCount d;
     }
 
 -- "the day enquiry 7 and 9"
@@ -60,13 +60,13 @@ reportedDay day =
       t = day .t;
       season = seasonDigit (day .season);
       «day_type» = dayTypeDigit (day .«day_type»);
-      values = day .values;
+      «value_count» = day .«value_count»;
     }
 
 -- "A refusal gives number, place and zeros elsewhere"
 abbrev pub reportedRefusal : Refusal → DayReport
 reportedRefusal r =
-    record { number = refusalNumber r; place = refusalPlace r; weekday = 0; t = 0; season = 0; «day_type» = 0; values = 0 }
+    record { number = refusalNumber r; place = refusalPlace r; weekday = 0; t = 0; season = 0; «day_type» = 0; «value_count» = 0 }
 
 abbrev pub reported : DayAnswer → DayReport
 reported (DayAnswer.Described day) = reportedDay day

@@ -15,7 +15,7 @@ pub struct Day {
     pub t: u32,
     pub season: Season,
     pub day_type: DayType,
-    pub values: u32,
+    pub value_count: u32,
 }
 
 pub enum DayAnswer {
@@ -32,7 +32,7 @@ pub struct DayReport {
     pub t: u32,
     pub season: u32,
     pub day_type: u32,
-    pub values: u32,
+    pub value_count: u32,
 }
 
 // What document 01 says of a day.
@@ -46,7 +46,7 @@ fn describe(d: Date, holidays: &[u32]) -> Day
         t: calendar_dates::day_of_year(d),
         season: calendar_days::season_of(d),
         day_type: calendar_days::day_type_of(d, weekday, holidays),
-        values: calendar_days::count_under(calendar_days::clock_of(d, weekday)),
+        value_count: calendar_days::count_under(calendar_days::clock_of(d, weekday)),
     }
 }
 
@@ -99,7 +99,7 @@ fn report_day(day: Day) -> DayReport
         t: day.t,
         season: season_digit(season),
         day_type: day_type_digit(day_type),
-        values: day.values,
+        value_count: day.value_count,
     }
 }
 
@@ -113,7 +113,7 @@ fn report_refusal(refusal: Refusal) -> DayReport
         t: 0,
         season: 0,
         day_type: 0,
-        values: 0,
+        value_count: 0,
     }
 }
 

@@ -13,7 +13,6 @@ use Rattle.refusal.specs.declared.Verdict.{Verdict}
 use Rattle.refusal.specs.declared.Verdict.the-variants.{Pass}
 use Rattle.refusal.specs.Questions.{roomQuestion}
 use Rattle.calendar_dates.specs.Dates.{dateOf}
-use Rattle.calendar_period.specs.declared.CalendarDay.{CalendarDay}
 use Rattle.calendar_period.specs.Period.{daysOf, countOfDays}
 use Rattle.calendar_period.specs.Inside.{calendarDay, RealDays}
 use Rattle.calendar_laws.proofs.Periods.{period-days}

@@ -1,6 +1,6 @@
 -- Document 01, "Marked days and figures", in its order. Proved in proofs/MarkedFigures.antt.
 use mathlib.Core.Path.{_≡_}
-use mathlib.Core.List.{List, [], _∷_}
+use mathlib.Core.List.{[], _∷_}
 use Prim.Native.Nat.{ℕ}
 use lib.IntN.{pos}
 use lib.ListN.{length}

@@ -81,7 +81,7 @@ fn write_day(day: Day) {
     lines::write_next(day.t as u64);
     io::write_all(STDOUT_FILENO, &[b' ', season_letter(season)]);
     lines::write_number(call_day::day_type_digit(day_type) as u64);
-    lines::write_next(day.values as u64);
+    lines::write_next(day.value_count as u64);
 }
 
 fn season_letter(s: Season) -> u8 {

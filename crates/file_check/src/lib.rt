@@ -4,6 +4,7 @@ use file_layout::Layout;
 use refusal::Refusal;
 use refusal::Verdict;
 ghost use mathlib.Core.Path.{_≡_};
+ghost use Rattle.refusal.specs.Questions.{reported};
 ghost use Rattle.file_layout.specs.Inside.{LaidOut};
 ghost use Rattle.file_check.specs.Inside.{CodeAt};
 ghost use Rattle.file_check.specs.Check.{codeQuestion, codesQuestion, fileCheck};
@@ -46,6 +47,7 @@ fn codes_question(layout: Layout, file: &[u8]) -> Verdict
 // Questions 1 to 5.
 pub fn check_file(file: &[u8]) -> Verdict
     ensures { λ r. ⌜ r ≡ fileCheck (now (file .entry)) ⌝ }
+    ensures { λ r. ⌜ reported r ≡ reported (fileCheck (now (file .entry))) ⌝ }
 {
     let v = file_layout::header_questions(file);
     let Verdict::Pass = v else {

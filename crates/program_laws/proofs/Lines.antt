@@ -130,6 +130,10 @@ module _ (q : Request) (k : ℕ) (output : List ℕ) (passed : requestCheck q �
   day-as-expanded = record { row = day-row; answer = λ room. answer (onDay q k output) output (passes (onDay q k output) day-sound) room; carry = day-carry }
 
 module _ (q : Request) where
+  one-day : daysIn q ≡ 1 → rowsOf q ≡ rowOf (dateOf (q .first)) (totals q .count) (totals q .total) ∷ []
+  unfolding rows series
+  one-day one = rw (one, only-day (basisOf q) (dateOf (q .first)))
+
   as-expanded : AsExpanded q
   unfolding RowsAddUp series
   as-expanded =
@@ -139,6 +143,7 @@ module _ (q : Request) where
         counts = counts ∙ sym (series-length q);
         wattHours = energy;
         whole = answer q;
+        oneDay = one-day;
         day = day-as-expanded q;
         refused = refusal q;
       }

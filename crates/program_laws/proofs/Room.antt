@@ -1,6 +1,6 @@
 -- 65,536 bytes are enough for what is printed: a line a day of at most 39, 1,461 days, and a last line of at most 90; or the line
 -- of a refusal. Assumes nothing.
-use mathlib.Core.Path.{_≡_, refl, sym, _∙_, ap}
+use mathlib.Core.Path.{_≡_, refl, sym, _∙_}
 use mathlib.Core.List.{List}
 use Prim.Native.Nat.{ℕ, _≤_}
 use native.Mathlib.Omega.{arith}

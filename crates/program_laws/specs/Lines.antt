@@ -51,6 +51,8 @@ pub record AsExpanded (q : Request) : Type 0 where
   pub wattHours : sum (map (λ row. row .wattHours) (rowsOf q)) ≡ totals q .total
   -- those of the last line are what one call for the whole period answers, with any output that is long enough
   pub whole : (output : List ℕ) → requestCheck q ≡ Pass → length (series q) ≤ length output → expansion (lent q output) ≡ Expanded (totals q)
+  -- a period of one day has the line of its last line's figures, whatever its questions say
+  pub oneDay : daysIn q ≡ 1 → rowsOf q ≡ rowOf (dateOf (q .first)) (totals q .count) (totals q .total) ∷ []
   -- those of each day's line are what a call for that day answers
   pub day : (k : ℕ) (output : List ℕ) → requestCheck q ≡ Pass → k < daysIn q → DayAsExpanded q k output
   -- a refusal is the one that such a call answers

@@ -59,7 +59,7 @@ fn enquired(date: u32) -> Figures {
         t: r.t,
         season: r.season,
         day_type: r.day_type,
-        values: r.values,
+        values: r.value_count,
     }
 }
 

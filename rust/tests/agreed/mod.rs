@@ -157,7 +157,7 @@ fn day_report(answer: &Result<DayAnswer, Refusal>) -> DayReport {
         t: of(|day| day.t),
         season: of(|day| day.season as u32 + 1),
         day_type: of(|day| day.day_type as u32 + 1),
-        values: of(|day| day.values as u32),
+        value_count: of(|day| day.values as u32),
     }
 }
 
@@ -175,7 +175,7 @@ fn package_day(day: DayAnswer) -> slp::Day {
             reference::DayType::Saturday => DayType::Saturday,
             reference::DayType::Sunday => DayType::Sunday,
         },
-        values: day.values as u32,
+        value_count: day.values as u32,
     }
 }
 

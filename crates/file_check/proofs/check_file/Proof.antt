@@ -5,7 +5,7 @@ use mathlib.Core.List.{List}
 use Prim.Native.Nat.{ℕ}
 use borrow.Author.Needs.{needs}
 use Rattle.refusal.specs.declared.Verdict.the-variants.{Pass}
-use Rattle.refusal.proofs.Questions.{then-pass, stops}
+use Rattle.refusal.proofs.Questions.{as-reported, then-pass, stops}
 use Rattle.file_layout.specs.declared.Layout.{Layout}
 use Rattle.file_layout.specs.Header.{layoutOf, headerCheck}
 use Rattle.file_layout.specs.Inside.{LaidOut}
@@ -44,7 +44,7 @@ enum-told-2 c = search needs
 
 returns : tie.Need-returns
 unfolding fileCheck
-returns c = stops _ (c .before .before .header-questions .ensures) (search needs)
+returns c = as-reported (stops _ (c .before .before .header-questions .ensures) (search needs))
 
 layout-of-requires : tie.Need-layout-of-requires
 layout-of-requires c κs = headed _ (passed-header c) .header
@@ -61,8 +61,9 @@ enum-told-4 c = search needs
 returns-2 : tie.Need-returns-2
 unfolding fileCheck
 returns-2 c =
-    stops _ (codes-are (c .before .before)) (search needs)
-    ∙ sym (then-pass _ (passed-header (c .before .before .before .before)))
+    as-reported
+    (stops _ (codes-are (c .before .before)) (search needs)
+    ∙ sym (then-pass _ (passed-header (c .before .before .before .before))))
 
 values-question-requires : tie.Need-values-question-requires
 values-question-requires c κs = laid-out (c .before .before .before)
@@ -71,10 +72,11 @@ returns-3 : tie.Need-returns-3
 unfolding fileCheck
 returns-3 c =
     let codes = c .before .before .before in
-    c .values-question .ensures
+    as-reported
+    (c .values-question .ensures
     ∙ ap (λ (layout : Layout). valuesQuestion layout (file codes)) (codes .before .layout-of .ensures .0)
     ∙ sym (then-pass _ (sym (codes-are codes) ∙ c .before .enum-told3 .given .1))
-    ∙ sym (then-pass _ (passed-header (codes .before .before)))
+    ∙ sym (then-pass _ (passed-header (codes .before .before))))
 
 pub check-file-spec : {M : Type 1} → statement M
 check-file-spec =

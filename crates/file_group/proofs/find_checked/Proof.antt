@@ -14,7 +14,7 @@ use Rattle.file_group.proofs.find_checked.Statement.{statement}
 use Rattle.file_group.proofs.find_checked.Tie as tie
 
 passed : (c : tie.After-enum-told) → fileCheck (c .before .before .before .before .args .file .now) ≡ Pass
-passed c = sym (c .before .before .check-file .ensures) ∙ c .enum-told .given .1
+passed c = sym (c .before .before .check-file .ensures .0) ∙ c .enum-told .given .1
 
 check-file-requires : tie.Need-check-file-requires
 check-file-requires c κs = search needs
@@ -23,7 +23,7 @@ enum-known-refusal : tie.Need-enum-known-refusal
 enum-known-refusal c = search needs
 
 returns : tie.Need-returns
-returns c = answers-refused _ (refused-first _ (sym (c .before .before .before .check-file .ensures) ∙ c .before .refusal .given .1))
+returns c = answers-refused _ (refused-first _ (sym (c .before .before .before .check-file .ensures .0) ∙ c .before .refusal .given .1))
 
 enum-told : tie.Need-enum-told
 enum-told c = search needs

@@ -1,5 +1,5 @@
 -- `program_answer::put_answer` meets its contract: a refusal's line, or the lines of the days and the last one. Assumes nothing.
-use mathlib.Core.Path.{_≡_, sym, _∙_}
+use mathlib.Core.Path.{sym, _∙_}
 use mathlib.Core.List.{[]}
 use native.Mathlib.Omega.{arith}
 use borrow.Author.Needs.{needs}

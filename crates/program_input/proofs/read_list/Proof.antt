@@ -8,7 +8,6 @@ use native.Mathlib.Omega.{arith}
 use native.Mathlib.Numerals.{add-one}
 use lib.ListN.{length, drop, length-set}
 use lib.Seq.{sets}
-use borrow.Author.Needs.{needs}
 use Rattle.lists.proofs.Strides.{places-next, places-end, stored-places}
 use Rattle.big_endian.specs.BigEndian.{longAt, longsFrom}
 use Rattle.program_input.specs.Input.{headLength, listLength}

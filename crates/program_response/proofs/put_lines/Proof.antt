@@ -1,5 +1,5 @@
 -- `program_response::put_lines` meets its contract: by question 12. Assumes nothing.
-use mathlib.Core.Path.{_≡_, sym, _∙_}
+use mathlib.Core.Path.{sym, _∙_}
 use native.Mathlib.Omega.{arith}
 use borrow.Author.Needs.{needs}
 use Rattle.refusal.proofs.Questions.{room-passed}
