@@ -37,6 +37,6 @@ abbrev pub askedEntries : ℕ → ℕ
 askedEntries listed = min listed 401
 
 -- the list's first entries, at the start of a lent list, which keeps the others
-pub record Listed (input before : List ℕ) (r : ℕ) (after : List ℕ) : Type 0 where
+pub record ListRead (input before : List ℕ) (r : ℕ) (after : List ℕ) : Type 0 where
   pub count : r ≡ askedEntries (listLength input)
   pub entries : after ≡ longsFrom input (askedEntries (listLength input)) headLength ++ drop (askedEntries (listLength input)) before

@@ -4,7 +4,7 @@ ghost use mathlib.Core.Path.{_≡_};
 ghost use Prim.Native.Nat.{_≤_, _<_};
 ghost use lib.ListN.{length, drop};
 ghost use Rattle.program_input.specs.Input.{headLength, fileStart, inputQuestion};
-ghost use Rattle.program_input.specs.Inside.{headOf, headedBy, Complete, Listed};
+ghost use Rattle.program_input.specs.Inside.{headOf, headedBy, Complete, ListRead};
 
 // Group, two dates, A and list length.
 pub const HEAD_LENGTH: usize = 15;
@@ -61,7 +61,7 @@ pub fn head_in(input: &[u8]) -> Headed
 pub fn read_list(input: &[u8], listed: usize, list: &mut [u32]) -> usize
     requires { ⌜ Complete (now input) listed ⌝ }
     requires { ⌜ 401 ≤ length (now list) ⌝ }
-    ensures { λ r. ⌜ Listed (now (input .entry)) (now (list .entry)) r (now (list .exit)) ⌝ }
+    ensures { λ r. ⌜ ListRead (now (input .entry)) (now (list .entry)) r (now (list .exit)) ⌝ }
 {
     let mut entries = listed;
     if LIST_ROOM < entries {

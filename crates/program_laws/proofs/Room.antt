@@ -27,7 +27,7 @@ use Rattle.program_answer.specs.Answer.{linesFor}
 use Rattle.program_text.specs.Printed.{printed}
 use Rattle.program_response.specs.declared.Response.{Response}
 use Rattle.program_response.specs.declared.Response.the-variants.{Written}
-use Rattle.program_response.specs.Responding.{pageQuestion, answered, responseTo}
+use Rattle.program_response.specs.Responding.{responseCheck, answered, responseTo}
 use Rattle.program_laws.specs.Lines.{EnoughRoom}
 
 values-of-table : (q : Request) → length (tableOf (q .file) (q .group)) ≡ 864
@@ -50,8 +50,8 @@ enough-room input =
 
 -- so a page of that length has room for every response, and one that was written lies on its page
 pub inside : (input page : List ℕ) {answer : Response} {n : ℕ} → answer ≡ responseTo input page → answer ≡ Written n → n ≤ length page
-inside input page e w = from (pageQuestion (printed input) page) refl (sym w ∙ e)
+inside input page e w = from (responseCheck input (length page)) refl (sym w ∙ e)
   where
-    from : {n : ℕ} (v : Verdict) → pageQuestion (printed input) page ≡ v → Written n ≡ answered v (length (printed input)) → n ≤ length page
+    from : {n : ℕ} (v : Verdict) → responseCheck input (length page) ≡ v → Written n ≡ answered v (length (printed input)) → n ≤ length page
     from {n} Pass p h = let same : n ≡ length (printed input) = cc in omega (arith, room-passed _ _ p)
     from {n} (Refused r) p h = let z : _≡_ {A = ℕ} 0 1 = cc in absurd (omega arith)

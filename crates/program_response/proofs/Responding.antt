@@ -8,17 +8,18 @@ use lib.ListN.{length, take, drop, length-append, length-drop}
 use lib.Seq.{take-at}
 use Rattle.refusal.specs.declared.Refusal.{Refusal}
 use Rattle.refusal.specs.declared.Verdict.the-variants.{Pass, Refused}
+use Rattle.refusal.specs.Questions.{roomQuestion}
 use Rattle.text.specs.Inside.{Put}
 use Rattle.program_text.specs.Printed.{printed}
 use Rattle.program_response.specs.declared.Response.{Response}
-use Rattle.program_response.specs.Responding.{pageQuestion, responseTo, pageAfter, reported}
+use Rattle.program_response.specs.Responding.{responseTo, pageAfter, reported}
 use Rattle.program_response.specs.Inside.{Answers}
 
 module _ (text before : List ℕ) where
-  pub no-room : {r : Refusal} → pageQuestion text before ≡ Refused r → Answers text before (Response.Refused r) before
+  pub no-room : {r : Refusal} → roomQuestion (length text) (length before) ≡ Refused r → Answers text before (Response.Refused r) before
   no-room e = record { answer = rw e; page = rw e }
 
-  pub put : {r : ℕ} {after : List ℕ} → pageQuestion text before ≡ Pass → Put text before 0 r after → Answers text before (Response.Written r) after
+  pub put : {r : ℕ} {after : List ℕ} → roomQuestion (length text) (length before) ≡ Pass → Put text before 0 r after → Answers text before (Response.Written r) after
   put e p =
       let all : _ ≡ length text = p .behind ∙ zero-add _ in
       record { answer = rw (e, all); page = p .page ∙ rw (e, zero-add) }

@@ -9,9 +9,9 @@ use Rattle.program_text.specs.Printed.{printed}
 use Rattle.program_response.specs.declared.Response.{Response}
 use Rattle.program_response.specs.declared.ResponseReport.{ResponseReport}
 
--- 12. "Is the lent output long enough?": the bytes of the text are needed. The other questions' refusals are text themselves.
-abbrev pub pageQuestion : List ℕ → List ℕ → Verdict
-pageQuestion text page = roomQuestion (length text) (length page)
+-- Responding: question 12 alone, with the bytes of the text as place. What the other questions refuse is text itself.
+abbrev pub responseCheck : List ℕ → ℕ → Verdict
+responseCheck input room = roomQuestion (length (printed input)) room
 
 -- the length of the text where it has room, else the refusal
 abbrev pub answered : Verdict → ℕ → Response
@@ -19,11 +19,11 @@ answered Pass written = Response.Written written
 answered (Refused r) written = Response.Refused r
 
 abbrev pub responseTo : List ℕ → List ℕ → Response
-responseTo input page = answered (pageQuestion (printed input) page) (length (printed input))
+responseTo input page = answered (responseCheck input (length page)) (length (printed input))
 
 -- the lent page after the call
 abbrev pub pageAfter : List ℕ → List ℕ → List ℕ
-pageAfter input page = lentAfter (pageQuestion (printed input) page) (printed input) page
+pageAfter input page = lentAfter (responseCheck input (length page)) (printed input) page
 
 -- the figures for each case of the answer; "A refusal gives number, place and zeros elsewhere"
 abbrev pub reported : Response → ResponseReport

@@ -9,13 +9,13 @@ use borrow.Author.Needs.{needs}
 use Rattle.lists.proofs.Strides.{length-places}
 use Rattle.big_endian.specs.BigEndian.{longAt, longsFrom}
 use Rattle.program_input.specs.Input.{headLength, listLength}
-use Rattle.program_input.specs.Inside.{askedEntries, Listed}
+use Rattle.program_input.specs.Inside.{askedEntries, ListRead}
 use Rattle.program_text.proofs.CutList.{whole}
 use Rattle.program_text.proofs.answer.Statement.{statement}
 use Rattle.program_text.proofs.answer.Tie as tie
 
 -- the part of the list that is handed on
-entries : {input before after : List ℕ} {r : ℕ} → Listed input before r after → take (r - 0) (drop 0 after) ≡ longsFrom input (askedEntries (listLength input)) headLength
+entries : {input before after : List ℕ} {r : ℕ} → ListRead input before r after → take (r - 0) (drop 0 after) ≡ longsFrom input (askedEntries (listLength input)) headLength
 entries {input} l = rw (l .count, l .entries, sub-zero) (take-at _ _ _ (length-places (longAt input) 4 _ _))
 
 slice-aggregate-read-list : tie.Need-slice-aggregate-read-list
