@@ -57,10 +57,10 @@ positions Forward day = take 8 day ++ drop 12 day
 positions Back day = take 12 day ++ drop 8 day
 
 -- March "has 92 values", October "has 100. All other days have 96."
-abbrev pub countUnder : Clock → ℕ
-countUnder Unchanged = 96
-countUnder Forward = 92
-countUnder Back = 100
+abbrev pub valueCountUnder : Clock → ℕ
+valueCountUnder Unchanged = 96
+valueCountUnder Forward = 92
+valueCountUnder Back = 100
 
 abbrev pub valueCount : Date → ℕ
-valueCount d = countUnder (clock d)
+valueCount d = valueCountUnder (clock d)

@@ -3,7 +3,7 @@ use calendar_dates::Date;
 ghost use mathlib.Core.Path.{_≡_};
 ghost use mathlib.Core.Bool.{true};
 ghost use Rattle.calendar_dates.specs.Dates.{isDate, weekdayOf};
-ghost use Rattle.calendar_days.specs.Days.{season, dayTypeWhen, dayType, lastSunday, clock, countUnder};
+ghost use Rattle.calendar_days.specs.Days.{season, dayTypeWhen, dayType, lastSunday, clock, valueCountUnder};
 
 pub enum Season {
     Winter,
@@ -109,8 +109,8 @@ pub fn clock_of(d: Date, weekday: u32) -> Clock
     Clock::Unchanged
 }
 
-pub fn count_under(c: Clock) -> u32
-    ensures { λ r. ⌜ r ≡ countUnder c ⌝ }
+pub fn value_count_under(c: Clock) -> u32
+    ensures { λ r. ⌜ r ≡ valueCountUnder c ⌝ }
 {
     match c {
         Clock::Unchanged => 96,

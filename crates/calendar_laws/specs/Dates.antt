@@ -15,5 +15,10 @@ pub record DateFacts (d : Date) : Type 0 where
   pub nextLater : numberOf d < numberOf (nextDay d)
   pub nextIsDate : numberOf d < 20991231 → isDate (nextDay d) ≡ true
 
+-- "1 January is day t = 1 and 31 December is 365 or 366."
+pub record YearCounted (year : ℕ) : Type 0 where
+  pub first : dayOfYear (record { year = year; month = 1; day = 1 }) ≡ 1
+  pub last : dayOfYear (record { year = year; month = 12; day = 31 }) ≡ 365 + leapDays year
+
 unfoldable pub DatesCounted : Type 0
-DatesCounted = ((d : Date) → isDate d ≡ true → DateFacts d) × ((n : ℕ) → numberOf (dateOf n) ≡ n)
+DatesCounted = ((d : Date) → isDate d ≡ true → DateFacts d) × ((n : ℕ) → numberOf (dateOf n) ≡ n) × ((year : ℕ) → YearCounted year)

@@ -15,12 +15,12 @@ use Rattle.calendar_dates.specs.declared.Date.{Date}
 use Rattle.calendar_dates.specs.Dates.{dateOf, isDate, dayOfYear, dayNumber, weekdayOf, nextDay}
 use Rattle.calendar_days.specs.declared.Clock.{Clock}
 use Rattle.calendar_days.specs.declared.Clock.the-variants.{Unchanged, Forward, Back}
-use Rattle.calendar_days.specs.Days.{clock, countUnder, valueCount}
+use Rattle.calendar_days.specs.Days.{clock, valueCountUnder, valueCount}
 use Rattle.calendar_period.specs.declared.CalendarDay.{CalendarDay}
 use Rattle.calendar_period.specs.declared.Counted.{Counted}
 use Rattle.calendar_period.specs.declared.Dated.{Dated}
 use Rattle.calendar_period.specs.declared.PeriodDays.{PeriodDays}
-use Rattle.calendar_period.specs.Period.{dateQuestion, daysOf, periodQuestion, periodCheck, countOfDays}
+use Rattle.calendar_period.specs.Period.{dateQuestion, daysOf, periodQuestion, periodCheck, valueCountOfDays}
 use Rattle.calendar_period.specs.Inside.{datedBy, countedBy, RealDay}
 
 -- what a day knows of itself
@@ -32,18 +32,18 @@ module _ {day : CalendarDay} (real : RealDay day) where
   own-t = ap (λ (x : CalendarDay). x .t) (real .known)
 
 -- The values of a period's days: at most 100 a day.
-pub clock-small : (c : Clock) → countUnder c ≤ 100
+pub clock-small : (c : Clock) → valueCountUnder c ≤ 100
 clock-small Unchanged = omega arith
 clock-small Forward = omega arith
 clock-small Back = omega arith
 
-pub values-small : (n : ℕ) (d : Date) → countOfDays n d ≤ 100 * n
-unfolding countOfDays
+pub values-small : (n : ℕ) (d : Date) → valueCountOfDays n d ≤ 100 * n
+unfolding valueCountOfDays
 values-small zero d = omega arith
 values-small (suc n) d = omega (arith, clock-small (clock d), values-small n (nextDay d))
 
-pub values-next : (n : ℕ) (d : Date) → 0 < n → countOfDays n d ≡ valueCount d + countOfDays (n - 1) (nextDay d)
-unfolding countOfDays
+pub values-next : (n : ℕ) (d : Date) → 0 < n → valueCountOfDays n d ≡ valueCount d + valueCountOfDays (n - 1) (nextDay d)
+unfolding valueCountOfDays
 values-next zero d h = absurd (omega arith)
 values-next (suc n) d h =
     let one : suc n - 1 ≡ n = omega arith in rw one

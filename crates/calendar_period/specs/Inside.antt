@@ -21,10 +21,11 @@ datedBy (Refused r) d = Dated.Refused r
 abbrev pub calendarDay : Date → CalendarDay
 calendarDay d = record { date = d; weekday = weekdayOf d; t = dayOfYear d }
 
--- a period's first day and the number of its days, where its questions passed, else the refusal
+-- a period's first day and the number of its days
 abbrev pub periodDays : Date → Date → PeriodDays
 periodDays first last = record { first = calendarDay first; days = daysOf first last }
 
+-- the same where the period's questions passed, else the refusal
 abbrev pub countedBy : Verdict → PeriodDays → Counted
 countedBy Pass days = Counted.Days days
 countedBy (Refused r) days = Counted.Refused r

@@ -27,6 +27,6 @@ abbrev pub periodCheck : ℕ → ℕ → Verdict
 periodCheck first last = dateQuestion first 0 then dateQuestion last 1 then periodQuestion (dateOf first) (dateOf last)
 
 -- the values of n days from a date on
-unfoldable pub countOfDays : ℕ → Date → ℕ
-countOfDays zero d = 0
-countOfDays (suc n) d = valueCount d + countOfDays n (nextDay d)
+unfoldable pub valueCountOfDays : ℕ → Date → ℕ
+valueCountOfDays zero d = 0
+valueCountOfDays (suc n) d = valueCount d + valueCountOfDays n (nextDay d)

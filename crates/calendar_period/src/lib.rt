@@ -6,7 +6,7 @@ ghost use mathlib.Core.Path.{_≡_};
 ghost use mathlib.Core.Bool.{true};
 ghost use Prim.Native.Nat.{_≤_};
 ghost use Rattle.calendar_dates.specs.Dates.{dateOf, isDate, nextDay, AllDates};
-ghost use Rattle.calendar_period.specs.Period.{dateQuestion, periodQuestion, periodCheck, countOfDays};
+ghost use Rattle.calendar_period.specs.Period.{dateQuestion, periodQuestion, periodCheck, valueCountOfDays};
 ghost use Rattle.calendar_period.specs.Inside.{datedBy, calendarDay, periodDays, countedBy};
 
 // A date of the span, or the refusal.
@@ -116,18 +116,18 @@ pub fn count_days(first: u32, last: u32) -> Counted
 }
 
 // The number of values of some days from a day on.
-pub fn count_of_days(first: CalendarDay, days: u32) -> usize
+pub fn value_count_of_days(first: CalendarDay, days: u32) -> usize
     requires { ⌜ first ≡ calendarDay (first .date) ⌝ }
     requires { ⌜ days ≤ 1_461 ⌝ }
     requires { ⌜ AllDates days (first .date) ⌝ }
-    ensures { λ r. ⌜ r ≡ countOfDays days (first .date) ⌝ }
+    ensures { λ r. ⌜ r ≡ valueCountOfDays days (first .date) ⌝ }
 {
     let mut day = first;
     let mut left = days;
     let mut values: usize = 0;
     while 0 < left {
         let clock = calendar_days::clock_of(day.date, day.weekday);
-        values += calendar_days::count_under(clock) as usize;
+        values += calendar_days::value_count_under(clock) as usize;
         day = day_after(day);
         left -= 1;
     }

@@ -46,7 +46,7 @@ fn describe(d: Date, holidays: &[u32]) -> Day
         t: calendar_dates::day_of_year(d),
         season: calendar_days::season_of(d),
         day_type: calendar_days::day_type_of(d, weekday, holidays),
-        value_count: calendar_days::count_under(calendar_days::clock_of(d, weekday)),
+        value_count: calendar_days::value_count_under(calendar_days::clock_of(d, weekday)),
     }
 }
 

@@ -22,7 +22,7 @@ pub fn expand(
         (request (now (file .entry)) group first last (now (holidays .entry)) yearly carry (now (out .entry))) r (now (out .exit)) ⌝ }
 {
     let opening = match call_open::open(file, group, first, last, holidays, yearly, carry) {
-        Opened::Request(opening) => opening,
+        Opened::Open(opening) => opening,
         Opened::Refused(refusal) => return Expansion::Refused(refusal),
     };
     let day = opening.first;

@@ -13,7 +13,7 @@ use Rattle.refusal.specs.declared.Verdict.{Verdict}
 use Rattle.refusal.specs.declared.Verdict.the-variants.{Pass}
 use Rattle.refusal.specs.Questions.{roomQuestion}
 use Rattle.calendar_dates.specs.Dates.{dateOf}
-use Rattle.calendar_period.specs.Period.{daysOf, countOfDays}
+use Rattle.calendar_period.specs.Period.{daysOf, valueCountOfDays}
 use Rattle.calendar_period.specs.Inside.{calendarDay, RealDays}
 use Rattle.calendar_laws.proofs.Periods.{period-days}
 use Rattle.file_layout.specs.Header.{layoutOf}
@@ -30,7 +30,7 @@ use Rattle.call_open.specs.declared.Opening.{Opening}
 use Rattle.call_open.specs.Inside.{opening, openedBy}
 
 -- what an answer tells of the questions asked, and the other way round
-opened-request : (v : Verdict) {o given : Opening} → Opened.Request o ≡ openedBy v given → (v ≡ Pass) × (o ≡ given)
+opened-request : (v : Verdict) {o given : Opening} → Opened.Open o ≡ openedBy v given → (v ≡ Pass) × (o ≡ given)
 opened-request Pass h = (refl, cc)
 opened-request (Verdict.Refused r) h = let z : _≡_ {A = ℕ} 0 1 = cc in absurd (omega arith)
 
@@ -38,7 +38,7 @@ pub opened-refused : (v : Verdict) (given : Opening) {r : Refusal} → Opened.Re
 opened-refused Pass given h = let z : _≡_ {A = ℕ} 0 1 = cc in absurd (omega arith)
 opened-refused (Verdict.Refused r) given h = cc
 
-pub answers-request : {v : Verdict} {o given : Opening} → v ≡ Pass → o ≡ given → Opened.Request o ≡ openedBy v given
+pub answers-request : {v : Verdict} {o given : Opening} → v ≡ Pass → o ≡ given → Opened.Open o ≡ openedBy v given
 answers-request p e = rw (p, e)
 
 pub answers-refused : {v : Verdict} {r : Refusal} (given : Opening) → v ≡ Verdict.Refused r → Opened.Refused r ≡ openedBy v given
@@ -65,7 +65,7 @@ pub record OpenedFor (q : Request) (o : Opening) : Type 0 where
   pub real : RealDays (o .first) (o .days)
   pub some : 0 < o .days
 
-pub opened-for : (q : Request) {o : Opening} → Opened.Request o ≡ openedBy (requestCheck q) (opening q) → OpenedFor q o
+pub opened-for : (q : Request) {o : Opening} → Opened.Open o ≡ openedBy (requestCheck q) (opening q) → OpenedFor q o
 unfolding daysOf
 opened-for q {o} h =
     let told = opened-request _ h in
@@ -86,7 +86,7 @@ opened-for q {o} h =
 
 module _ (q : Request) {o : Opening} (opened : OpenedFor q o) where
   -- question 12, of the days' quarter hours
-  pub room-needed : (room : ℕ) → roomQuestion (countOfDays (o .days) (o .first .date)) room ≡ roomQuestion (length (series q)) room
+  pub room-needed : (room : ℕ) → roomQuestion (valueCountOfDays (o .days) (o .first .date)) room ≡ roomQuestion (length (series q)) room
   room-needed room = rw (opened .day, opened .count, entries-needed q)
 
   -- the values at the group's place are the request's, and so are the quarter hours made of them

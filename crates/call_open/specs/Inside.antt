@@ -14,5 +14,5 @@ opening q = record { at = groupOffset (q .file) (q .group); first = calendarDay 
 
 -- the opening where every question passed, else the refusal
 abbrev pub openedBy : Verdict → Opening → Opened
-openedBy Pass opening = Opened.Request opening
+openedBy Pass opening = Opened.Open opening
 openedBy (Refused r) opening = Opened.Refused r

@@ -18,7 +18,7 @@ pub struct Opening {
 
 // A request opened, or the refusal.
 pub enum Opened {
-    Request(Opening),
+    Open(Opening),
     Refused(Refusal),
 }
 
@@ -48,7 +48,7 @@ pub fn open(
         return Opened::Refused(refusal);
     }
     let first = period.first;
-    Opened::Request(Opening {
+    Opened::Open(Opening {
         at,
         first,
         days: period.days,

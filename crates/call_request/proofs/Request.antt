@@ -8,7 +8,7 @@ use Rattle.refusal.specs.declared.Refusal.the-variants.{BadUse, BadCarry}
 use Rattle.refusal.proofs.Questions.{ask-yes, then-pass, ask-passed, then-first, then-next}
 use Rattle.calendar_dates.specs.Dates.{dateOf}
 use Rattle.calendar_holidays.specs.Holidays.{holidaysQuestion}
-use Rattle.calendar_period.specs.Period.{periodCheck, countOfDays}
+use Rattle.calendar_period.specs.Period.{periodCheck, valueCountOfDays}
 use Rattle.calendar_period.proofs.Period.{Period, period-passed, period-passes}
 use Rattle.file_layout.specs.Header.{layoutOf}
 use Rattle.file_group.specs.Group.{check}
@@ -58,7 +58,7 @@ module _ (q : Request) where
   unfolding series
   series-length = length-figures (q .yearly) (powers (quarters q)) (q .carry) ∙ length-map (quarters q) _
 
-  pub entries-needed : length (series q) ≡ countOfDays (daysIn q) (dateOf (q .first))
+  pub entries-needed : length (series q) ≡ valueCountOfDays (daysIn q) (dateOf (q .first))
   unfolding layoutOf
   entries-needed =
       series-length

@@ -1,4 +1,4 @@
--- Document 01, "Series and carry" and questions 1 to 12: what a call of expanding is given, the series that it asks for, and what is
+-- Document 01, "Series and carry" and questions 1 to 11: what a call of expanding is given, the series that it asks for, and what is
 -- asked of it.
 use mathlib.Core.List.{List}
 use Prim.Native.Nat.{ℕ}

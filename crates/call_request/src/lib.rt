@@ -4,7 +4,7 @@ use refusal::Refusal;
 use refusal::Verdict;
 ghost use mathlib.Core.Path.{_≡_};
 ghost use Rattle.refusal.specs.Questions.{roomQuestion};
-ghost use Rattle.calendar_period.specs.Period.{countOfDays};
+ghost use Rattle.calendar_period.specs.Period.{valueCountOfDays};
 ghost use Rattle.calendar_period.specs.Inside.{RealDays};
 ghost use Rattle.call_request.specs.Request.{useQuestion, carryQuestion, behindPeriod};
 
@@ -47,10 +47,10 @@ pub fn behind_period(holidays: &[u32], yearly: u32, carry: u32) -> Verdict
 // days: only where it is shorter are their quarter hours counted.
 pub fn room_question(first: CalendarDay, days: u32, room: usize) -> Verdict
     requires { ⌜ RealDays first days ⌝ }
-    ensures { λ r. ⌜ r ≡ roomQuestion (countOfDays days (first .date)) room ⌝ }
+    ensures { λ r. ⌜ r ≡ roomQuestion (valueCountOfDays days (first .date)) room ⌝ }
 {
     if days as usize * 100 <= room {
         return Verdict::Pass;
     }
-    refusal::room_question(calendar_period::count_of_days(first, days), room)
+    refusal::room_question(calendar_period::value_count_of_days(first, days), room)
 }

@@ -9,7 +9,7 @@ use Rattle.lists.specs.Lists.{sum}
 use Rattle.lists.proofs.Stores.{sets-append, stored}
 use Rattle.calendar_days.specs.declared.Clock.{Clock}
 use Rattle.calendar_days.specs.declared.Clock.the-variants.{Unchanged, Forward, Back}
-use Rattle.calendar_days.specs.Days.{positions, countUnder}
+use Rattle.calendar_days.specs.Days.{positions, valueCountUnder}
 use Rattle.carry.specs.Carry.{figures, lastCarry, RunsJoin}
 use Rattle.carry.proofs.Carry.{figures-append, carry-append, length-figures, carry-small, runs-join}
 use Rattle.carry_quotients.specs.declared.Carried.{Carried}
@@ -20,7 +20,7 @@ use Rattle.carry_day.specs.Inside.{DayCarried, firstEnd, secondStart}
 pub record Cut (clock : Clock) : Type 0 where
   pub first : firstEnd clock ≤ 96
   pub second : secondStart clock ≤ 96
-  pub together : firstEnd clock + (96 - secondStart clock) ≡ countUnder clock
+  pub together : firstEnd clock + (96 - secondStart clock) ≡ valueCountUnder clock
 
 pub cut : (clock : Clock) → Cut clock
 cut Unchanged = record { first = omega arith; second = omega arith; together = refl }
@@ -62,7 +62,7 @@ stored-figures figs before at n e h = stored figs before at e h
 
 -- the day's two ranges
 module _ (powers : List ℕ) (clock : Clock) {yearly carry end begin : ℕ} {before middle : List ℕ} {at : ℕ} {first : Carried}
-    (all : length powers ≡ 96) (he : end ≡ firstEnd clock) (hb : begin ≡ secondStart clock) (room : at + countUnder clock ≤ length before)
+    (all : length powers ≡ 96) (he : end ≡ firstEnd clock) (hb : begin ≡ secondStart clock) (room : at + valueCountUnder clock ≤ length before)
     (f : RangeCarried (slice 0 end powers) yearly carry before at first middle) where
   pub second-in-day : InDay begin 96 powers middle (at + end)
   second-in-day =
@@ -78,17 +78,17 @@ module _ (powers : List ℕ) (clock : Clock) {yearly carry end begin : ℕ} {bef
       let two = slice begin 96 powers in
       let e : positions clock powers ≡ one ++ two = rw (he, hb) (ranges clock powers all) in
       let full : length one ≡ end = length-take-le end powers (omega arith) in
-      let both : length (figures yearly (one ++ two) carry) ≡ countUnder clock =
+      let both : length (figures yearly (one ++ two) carry) ≡ valueCountUnder clock =
       omega (arith, length-figures yearly (one ++ two) carry, length-append one two, length-slice begin 96 powers (omega arith)) in
       record {
-        figuresStored = rw e (joined-figures one two full f g ∙ stored-figures (figures yearly (one ++ two) carry) before at (countUnder clock) both room);
+        figuresStored = rw e (joined-figures one two full f g ∙ stored-figures (figures yearly (one ++ two) carry) before at (valueCountUnder clock) both room);
         totalIs = rw e (joined-total one two full f g);
         carryIs = rw e (joined-carry one two full f g);
       }
 
 -- a day without a clock change is one range
 pub unchanged : (powers : List ℕ) {clock : Clock} {yearly carry : ℕ} {before after : List ℕ} {at : ℕ} {r : Carried} → length powers ≡ 96 → clock ≡ Unchanged →
-    at + countUnder clock ≤ length before → RangeCarried (slice 0 96 powers) yearly carry before at r after → DayCarried powers clock yearly carry before at r after
+    at + valueCountUnder clock ≤ length before → RangeCarried (slice 0 96 powers) yearly carry before at r after → DayCarried powers clock yearly carry before at r after
 unfolding positions
 unchanged powers {yearly = yearly} {carry} {before} {at = at} all e room f =
     let same : slice 0 96 powers ≡ powers = take-all 96 powers (omega arith) in

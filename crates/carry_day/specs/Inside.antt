@@ -6,13 +6,13 @@ use lib.ListN.{take, drop}
 use Rattle.lists.specs.Lists.{sum}
 use Rattle.calendar_days.specs.declared.Clock.{Clock}
 use Rattle.calendar_days.specs.declared.Clock.the-variants.{Unchanged, Forward, Back}
-use Rattle.calendar_days.specs.Days.{positions, countUnder}
+use Rattle.calendar_days.specs.Days.{positions, valueCountUnder}
 use Rattle.carry.specs.Carry.{figures, lastCarry}
 use Rattle.carry_quotients.specs.declared.Carried.{Carried}
 
 -- the figures of the day's positions after the clock change, stored from `at` on, and what they come to
 pub record DayCarried (powers : List ℕ) (clock : Clock) (yearly carry : ℕ) (before : List ℕ) (at : ℕ) (r : Carried) (after : List ℕ) : Type 0 where
-  pub figuresStored : after ≡ take at before ++ (figures yearly (positions clock powers) carry ++ drop (at + countUnder clock) before)
+  pub figuresStored : after ≡ take at before ++ (figures yearly (positions clock powers) carry ++ drop (at + valueCountUnder clock) before)
   pub totalIs : r .total ≡ sum (figures yearly (positions clock powers) carry)
   pub carryIs : r .carry ≡ lastCarry yearly (positions clock powers) carry
 

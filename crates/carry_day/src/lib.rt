@@ -5,7 +5,7 @@ ghost use mathlib.Core.Path.{_≡_};
 ghost use Prim.Native.Nat.{_+_, _≤_};
 ghost use lib.ListN.{length};
 ghost use lib.Seq.{slice};
-ghost use Rattle.calendar_days.specs.Days.{countUnder};
+ghost use Rattle.calendar_days.specs.Days.{valueCountUnder};
 ghost use Rattle.carry_quotients.specs.Inside.{SmallPowers, InDay, RangeCarried};
 ghost use Rattle.carry_day.specs.Inside.{DayCarried, firstEnd, secondStart};
 
@@ -61,7 +61,7 @@ fn carry_changed_day(
 ) -> Carried
     requires { ⌜ SmallPowers (now powers) yearly carry ⌝ }
     requires { ⌜ length (now powers) ≡ 96 ⌝ }
-    requires { ⌜ at + countUnder clock ≤ length (now out) ⌝ }
+    requires { ⌜ at + valueCountUnder clock ≤ length (now out) ⌝ }
     ensures { λ r. ⌜ DayCarried (now (powers .entry)) clock yearly carry (now (out .entry)) at r (now (out .exit)) ⌝ }
 {
     let end = first_end(clock);
@@ -92,7 +92,7 @@ pub fn carry_day(
     at: usize,
 ) -> Carried
     requires { ⌜ SmallPowers powers yearly carry ⌝ }
-    requires { ⌜ at + countUnder clock ≤ length (now out) ⌝ }
+    requires { ⌜ at + valueCountUnder clock ≤ length (now out) ⌝ }
     ensures { λ r. ⌜ DayCarried powers clock yearly carry (now (out .entry)) at r (now (out .exit)) ⌝ }
 {
     let Clock::Unchanged = clock else {

@@ -22,7 +22,7 @@ listingFile = mark ++ (0 ∷ 1 ∷ 1 ∷ 1 ∷ times 864 (3 ∷ 233 ∷ []))
 
 -- the call that a request makes by its contract, as it is reported
 abbrev pub callFor : Request → Call
-callFor q = record { given = q; answer = reported (expansion q); after = outputAfter q }
+callFor q = record { given = q; report = reported (expansion q); after = outputAfter q }
 
 -- "group 1, 20000325, 20000326, A = 1000, no holidays": a day each, and between them a call with a carry out of range
 abbrev pub saturday : Request

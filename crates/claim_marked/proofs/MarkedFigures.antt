@@ -6,14 +6,14 @@ use Rattle.calendar_dates.specs.Dates.{leapDays, monthLength, daysOfMonths, day
 use Rattle.calendar_holidays.specs.Holidays.{listed}
 use Rattle.calendar_days.specs.Days.{season, dayTypeWhen, lastSunday, clock}
 use Rattle.calendar_days.proofs.ClockChanges.{clock-changes}
-use Rattle.calendar_period.specs.Period.{countOfDays}
+use Rattle.calendar_period.specs.Period.{valueCountOfDays}
 use Rattle.dynamisation.specs.Dynamisation.{householdX, X, F, Q}
 use Rattle.carry.specs.Carry.{figures, lastCarry}
 use Rattle.series.proofs.Series.{length-quarters}
 use Rattle.claim_marked.specs.MarkedFigures.{MarkedFigures}
 
 pub marked-figures : MarkedFigures
-unfolding householdX X F Q leapDays monthLength daysOfMonths dayOfYear daysOfYears dayNumber weekdayOf nextDay season listed dayTypeWhen lastSunday clock countOfDays figures lastCarry
+unfolding householdX X F Q leapDays monthLength daysOfMonths dayOfYear daysOfYears dayNumber weekdayOf nextDay season listed dayTypeWhen lastSunday clock valueCountOfDays figures lastCarry
 marked-figures =
     record {
       t-1 = record { exact = refl; rounded = refl };

@@ -9,7 +9,7 @@ use Rattle.calendar_days.specs.declared.Season.{Season}
 use Rattle.calendar_days.specs.declared.DayType.{DayType}
 use Rattle.calendar_days.specs.Days.{season, dayType, valueCount}
 use Rattle.calendar_days.specs.ClockChanges.{ClockChanges}
-use Rattle.calendar_period.specs.Period.{countOfDays}
+use Rattle.calendar_period.specs.Period.{valueCountOfDays}
 use Rattle.dynamisation.specs.Dynamisation.{X, F, Q}
 use Rattle.carry.specs.Carry.{figures, lastCarry}
 use Rattle.day_powers.specs.DayQuarters.{Basis, dayQuarters}
@@ -61,7 +61,7 @@ pub record MarkedFigures : Type 0 where
   -- "26 March 2000: 92 values. 29 October 2000: 100. Year 2000: 35,136."
   pub clockForward : valueCount (dateOf 20000326) ≡ 92
   pub clockBack : valueCount (dateOf 20001029) ≡ 100
-  pub year-2000 : countOfDays 366 (dateOf 20000101) ≡ 35_136
+  pub year-2000 : valueCountOfDays 366 (dateOf 20000101) ≡ 35_136
   pub seriesForward : SeriesHas 1 20000326 92
   pub seriesBack : SeriesHas 1 20001029 100
   pub series-2000 : SeriesHas 366 20000101 35_136

@@ -49,22 +49,22 @@ told (Refused r) t = number-above-0 r
 pub record Took (c : Call) : Type 0 where
   pub passed : expandCheck (c .given) ≡ Pass
   pub figuresAre : figuresOf c ≡ series (c .given)
-  pub countIs : c .answer .count ≡ length (series (c .given))
-  pub totalIs : c .answer .total ≡ sum (series (c .given))
-  pub carryIs : (k : ℕ) → carryAfter k (c .answer) ≡ lastCarry (c .given .yearly) (powers (quarters (c .given))) (c .given .carry)
+  pub countIs : c .report .count ≡ length (series (c .given))
+  pub totalIs : c .report .total ≡ sum (series (c .given))
+  pub carryIs : (k : ℕ) → carryAfter k (c .report) ≡ lastCarry (c .given .yearly) (powers (quarters (c .given))) (c .given .carry)
 
 no-refusal : (v : Verdict) (t : Totals) → isAccepted (reported (answered v t)) ≡ true → v ≡ Pass
 no-refusal Pass t h = refl
 no-refusal (Refused r) t h = let n = number-above-0 r in cc
 
-pub took : (c : Call) → ByContract c → isAccepted (c .answer) ≡ true → Took c
+pub took : (c : Call) → ByContract c → isAccepted (c .report) ≡ true → Took c
 unfolding expansion outputAfter
 took c e h = from (no-refusal (expandCheck (c .given)) (totals (c .given)) (sym (ap isAccepted (e .answers)) ∙ h))
   where
     from : expandCheck (c .given) ≡ Pass → Took c
     from p =
         let q = c .given in
-        let answer : c .answer ≡ reported (Expansion.Expanded (totals q)) = e .answers ∙ ap (λ (v : Verdict). reported (answered v (totals q))) p in
+        let answer : c .report ≡ reported (Expansion.Expanded (totals q)) = e .answers ∙ ap (λ (v : Verdict). reported (answered v (totals q))) p in
         let after : c .after ≡ lentAfter Pass (series q) (q .output) = e .leaves ∙ ap (λ (v : Verdict). lentAfter v (series q) (q .output)) p in
         record {
           passed = p;
@@ -77,17 +77,17 @@ took c e h = from (no-refusal (expandCheck (c .given)) (totals (c .given)) (sym 
 -- a refused call adds nothing and hands its carry on
 pub record Adds0 (c : Call) : Type 0 where
   pub figuresAre : figuresOf c ≡ []
-  pub countIs : c .answer .count ≡ 0
-  pub totalIs : c .answer .total ≡ 0
-  pub carryIs : (k : ℕ) → carryAfter k (c .answer) ≡ k
+  pub countIs : c .report .count ≡ 0
+  pub totalIs : c .report .total ≡ 0
+  pub carryIs : (k : ℕ) → carryAfter k (c .report) ≡ k
 
-pub adds-nothing : (c : Call) → ByContract c → isAccepted (c .answer) ≡ false → Adds0 c
+pub adds-nothing : (c : Call) → ByContract c → isAccepted (c .report) ≡ false → Adds0 c
 unfolding expansion
 adds-nothing c e h = from (expandCheck (c .given)) (e .answers)
   where
-    from : (v : Verdict) → c .answer ≡ reported (answered v (totals (c .given))) → Adds0 c
+    from : (v : Verdict) → c .report ≡ reported (answered v (totals (c .given))) → Adds0 c
     from Pass answer =
-        let yes : isAccepted (c .answer) ≡ true = ap isAccepted answer in
+        let yes : isAccepted (c .report) ≡ true = ap isAccepted answer in
         let z : _≡_ {A = ℕ} 0 1 = cc in
         absurd (omega arith)
     from (Refused r) answer =
@@ -95,7 +95,7 @@ adds-nothing c e h = from (expandCheck (c .given)) (e .answers)
           figuresAre = rw answer;
           countIs = rw answer;
           totalIs = rw answer;
-          carryIs = λ k. ap (λ (b : Bool). cond b (c .answer .carry) k) h;
+          carryIs = λ k. ap (λ (b : Bool). cond b (c .report .carry) k) h;
         }
 
 -- what `expand` answered, reported

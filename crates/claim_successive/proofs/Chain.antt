@@ -26,9 +26,9 @@ pub record ComesTo (common : Common) (carry : ℕ) (calls : List Call) : Type 0 
 one-more : (common : Common) (carry next : ℕ) (c : Call) (calls : List Call) (qs : List Quarter) →
     joinedQuarters (c ∷ calls) ≡ qs ++ joinedQuarters calls →
     figuresOf c ≡ figures (common .yearly) (powers qs) carry →
-    c .answer .count ≡ length (figures (common .yearly) (powers qs) carry) →
-    c .answer .total ≡ sum (figures (common .yearly) (powers qs) carry) →
-    carryAfter carry (c .answer) ≡ next →
+    c .report .count ≡ length (figures (common .yearly) (powers qs) carry) →
+    c .report .total ≡ sum (figures (common .yearly) (powers qs) carry) →
+    carryAfter carry (c .report) ≡ next →
     next ≡ lastCarry (common .yearly) (powers qs) carry →
     ComesTo common next calls → ComesTo common carry (c ∷ calls)
 unfolding joinedFigures addedCounts addedTotals carryAfterAll
@@ -45,19 +45,19 @@ one-more common carry next c calls qs quartersAre f n t k l rest =
 
 -- a call in front of a list is among the accepted ones, or not
 module _ (c : Call) (calls : List Call) where
-  pub accepted-yes : isAccepted (c .answer) ≡ true → accepted (c ∷ calls) ≡ c ∷ accepted calls
+  pub accepted-yes : isAccepted (c .report) ≡ true → accepted (c ∷ calls) ≡ c ∷ accepted calls
   unfolding accepted
   accepted-yes h = rw h
 
-  pub accepted-no : isAccepted (c .answer) ≡ false → accepted (c ∷ calls) ≡ accepted calls
+  pub accepted-no : isAccepted (c .report) ≡ false → accepted (c ∷ calls) ≡ accepted calls
   unfolding accepted
   accepted-no h = rw h
 
-  pub quarters-yes : isAccepted (c .answer) ≡ true → joinedQuarters (c ∷ calls) ≡ quarters (c .given) ++ joinedQuarters calls
+  pub quarters-yes : isAccepted (c .report) ≡ true → joinedQuarters (c ∷ calls) ≡ quarters (c .given) ++ joinedQuarters calls
   unfolding joinedQuarters
   quarters-yes h = rw h
 
-  pub quarters-no : isAccepted (c .answer) ≡ false → joinedQuarters (c ∷ calls) ≡ joinedQuarters calls
+  pub quarters-no : isAccepted (c .report) ≡ false → joinedQuarters (c ∷ calls) ≡ joinedQuarters calls
   unfolding joinedQuarters
   quarters-no h = rw h
 
@@ -69,19 +69,19 @@ in-common q common carry e h =
     (rw (yearly, h), rw (yearly, h))
 
 module _ (common : Common) (c : Call) (calls : List Call) (contract : ByContract c) (rest : (k : ℕ) → Successive common k (accepted calls) → ComesTo common k calls) where
-  in-front : (b : Bool) → isAccepted (c .answer) ≡ b → (carry : ℕ) → Successive common carry (accepted (c ∷ calls)) → ComesTo common carry (c ∷ calls)
+  in-front : (b : Bool) → isAccepted (c .report) ≡ b → (carry : ℕ) → Successive common carry (accepted (c ∷ calls)) → ComesTo common carry (c ∷ calls)
   unfolding Successive figures lastCarry sum
   in-front true h carry s =
       let t = took c contract h in
       let front : Successive common carry (c ∷ accepted calls) = rw (accepted-yes c calls h) at s in
       let same = in-common (c .given) common carry (front .0) (front .1) in
-      one-more common carry (carryAfter carry (c .answer)) c calls (quarters (c .given)) (quarters-yes c calls h)
+      one-more common carry (carryAfter carry (c .report)) c calls (quarters (c .given)) (quarters-yes c calls h)
       (t .figuresAre ∙ same .0)
       (t .countIs ∙ ap length (same .0))
       (t .totalIs ∙ ap sum (same .0))
       refl
       (t .carryIs carry ∙ same .1)
-      (rest (carryAfter carry (c .answer)) (front .3))
+      (rest (carryAfter carry (c .report)) (front .3))
   in-front false h carry s =
       let nothing = adds-nothing c contract h in
       one-more common carry carry c calls [] (quarters-no c calls h) (nothing .figuresAre) (nothing .countIs) (nothing .totalIs) (nothing .carryIs carry) refl
@@ -91,4 +91,4 @@ pub comes-to : (common : Common) (carry : ℕ) (calls : List Call) → Each ByCo
 unfolding joinedFigures addedCounts addedTotals carryAfterAll joinedQuarters figures lastCarry sum
 comes-to common carry [] e s = record { figuresAre = refl; countsAre = refl; totalsAre = refl; carryIs = refl }
 comes-to common carry (c ∷ calls) e s =
-    in-front common c calls (e .0) (λ k s. comes-to common k calls (e .1) s) (isAccepted (c .answer)) refl carry s
+    in-front common c calls (e .0) (λ k s. comes-to common k calls (e .1) s) (isAccepted (c .report)) refl carry s

@@ -20,11 +20,11 @@ use Rattle.calendar_laws.proofs.Periods.{period-days}
 use Rattle.carry.specs.Carry.{largestUse, largestCarry}
 use Rattle.call_request.specs.Request.{Request, series, useQuestion, carryQuestion, aheadOfPeriod, behindPeriod, requestCheck}
 use Rattle.call_request.proofs.Request.{Sound, sound}
-use Rattle.call_expansion.specs.Answered.{answered}
+use Rattle.call_expansion.specs.Answered.{answered, reported}
 use Rattle.call_expand.specs.Expanding.{expandCheck, totals, expansion}
 use Rattle.claim_successive.specs.Pieces.{PieceOfPeriod, PiecesPass}
 use Rattle.claim_successive.specs.Reports.{isAccepted}
-use Rattle.claim_successive.specs.SuccessiveCalls.{Call, ByContract, Common, Piece, OutputAlone}
+use Rattle.claim_successive.specs.SuccessiveCalls.{Call, ByContract, Common, Piece, pieceAnswer, OutputAlone}
 use Rattle.claim_successive.proofs.Answers.{took}
 
 -- the days of a piece are a period
@@ -80,9 +80,11 @@ others-pass whole piece h p =
     (behindPeriod (piece .holidays) (piece .yearly) (piece .carry)) (whole .first) (whole .last) (piece .first) (piece .last) h (p .days)
     (behind-passes whole piece (sound whole h) p))
 
-pub output-alone : (whole : Call) (piece : Request) → ByContract whole → isAccepted (whole .answer) ≡ true → Piece (whole .given) piece → OutputAlone piece
-unfolding expandCheck expansion
-output-alone whole piece e h p =
-    let others = others-pass (whole .given) piece (then-first (requestCheck (whole .given)) _ (took whole e h .passed)) p in
-    let all : expandCheck piece ≡ roomQuestion (length (series piece)) (length (piece .output)) = then-pass _ others in
-    record { others = others; answerIs = ap (λ (v : Verdict). answered v (totals piece)) all }
+pub output-alone : (whole piece : Call) → ByContract whole → isAccepted (whole .report) ≡ true → ByContract piece → Piece (whole .given) (piece .given) → OutputAlone piece
+unfolding expandCheck expansion pieceAnswer
+output-alone whole piece e h own p =
+    let q = piece .given in
+    let others = others-pass (whole .given) q (then-first (requestCheck (whole .given)) _ (took whole e h .passed)) p in
+    let all : expandCheck q ≡ roomQuestion (length (series q)) (length (q .output)) = then-pass _ others in
+    let answer : expansion q ≡ pieceAnswer q = ap (λ (v : Verdict). answered v (totals q)) all in
+    record { others = others; answerIs = answer; reportIs = own .answers ∙ ap reported answer }

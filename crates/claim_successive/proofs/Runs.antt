@@ -75,7 +75,7 @@ unfolding Successive
 all-undynamised common carry group [] e s = tt
 all-undynamised common carry group (c ∷ calls) e s = (
   quarters-undynamised (c .given) group (ap (λ (x : Common). x .group) (s .0) ∙ e),
-  all-undynamised common (carryAfter carry (c .answer)) group calls e (s .3),
+  all-undynamised common (carryAfter carry (c .report)) group calls e (s .3),
 )
 
 -- the bound of a run of quarter hours, by the group

@@ -45,7 +45,7 @@ whole-carry : (common : Common) (start : ℕ) (calls : List Call) (whole : Reque
 whole-carry common start [] whole w = absurd w
 whole-carry common start (c ∷ calls) whole w = (w .0, w .1)
 
-same-as-whole : (common : Common) (start : ℕ) (calls : List Call) (whole : Call) → ComesTo common start calls → ByContract whole → isAccepted (whole .answer) ≡ true → commonOf (whole .given) ≡ common → whole .given .carry ≡ start → quarters (whole .given) ≡ joinedQuarters calls → SameAsWhole start calls whole
+same-as-whole : (common : Common) (start : ℕ) (calls : List Call) (whole : Call) → ComesTo common start calls → ByContract whole → isAccepted (whole .report) ≡ true → commonOf (whole .given) ≡ common → whole .given .carry ≡ start → quarters (whole .given) ≡ joinedQuarters calls → SameAsWhole start calls whole
 same-as-whole common start calls whole c e h same begun q =
     let t = took whole e h in
     let ours = in-common (whole .given) common start same begun in

@@ -73,7 +73,7 @@ covers common carry c [] e s =
       ordered = e .0 .period .ordered;
     }
 covers common carry c (next ∷ calls) e s =
-    let rest = covers common (carryAfter carry (c .answer)) next calls (e .1) (s .3) in
+    let rest = covers common (carryAfter carry (c .report)) next calls (e .1) (s .3) in
     let here = e .0 .period in
     let first = dateOf (c .given .first) in
     let last = dateOf (c .given .last) in
@@ -89,21 +89,21 @@ covers common carry c (next ∷ calls) e s =
     }
 
 -- the calls of a list, with the accepted ones alone
-in-front : (c : Call) (calls : List Call) → joinedQuarters calls ≡ allQuarters (accepted calls) → (b : Bool) → isAccepted (c .answer) ≡ b → joinedQuarters (c ∷ calls) ≡ allQuarters (accepted (c ∷ calls))
+in-front : (c : Call) (calls : List Call) → joinedQuarters calls ≡ allQuarters (accepted calls) → (b : Bool) → isAccepted (c .report) ≡ b → joinedQuarters (c ∷ calls) ≡ allQuarters (accepted (c ∷ calls))
 in-front c calls rest true h = rw (accepted-yes c calls h, quarters-yes c calls h, rest)
 in-front c calls rest false h = rw (accepted-no c calls h, quarters-no c calls h) rest
 
 pub joined-accepted : (calls : List Call) → joinedQuarters calls ≡ allQuarters (accepted calls)
 unfolding joinedQuarters accepted
 joined-accepted [] = refl
-joined-accepted (c ∷ calls) = in-front c calls (joined-accepted calls) (isAccepted (c .answer)) refl
+joined-accepted (c ∷ calls) = in-front c calls (joined-accepted calls) (isAccepted (c .report)) refl
 
 -- the accepted calls' requests passed their questions
-sound-front : (c : Call) (calls : List Call) → ByContract c → Each (λ c. Sound (c .given)) (accepted calls) → (b : Bool) → isAccepted (c .answer) ≡ b → Each (λ c. Sound (c .given)) (accepted (c ∷ calls))
+sound-front : (c : Call) (calls : List Call) → ByContract c → Each (λ c. Sound (c .given)) (accepted calls) → (b : Bool) → isAccepted (c .report) ≡ b → Each (λ c. Sound (c .given)) (accepted (c ∷ calls))
 sound-front c calls e rest true h = rw (accepted-yes c calls h) (request-sound (c .given) (took c e h .passed), rest)
 sound-front c calls e rest false h = rw (accepted-no c calls h) rest
 
 pub each-sound : (calls : List Call) → Each ByContract calls → Each (λ c. Sound (c .given)) (accepted calls)
 unfolding accepted
 each-sound [] e = tt
-each-sound (c ∷ calls) e = sound-front c calls (e .0) (each-sound calls (e .1)) (isAccepted (c .answer)) refl
+each-sound (c ∷ calls) e = sound-front c calls (e .0) (each-sound calls (e .1)) (isAccepted (c .report)) refl

@@ -12,6 +12,7 @@ use Rattle.calendar_dates.specs.Dates.{dateOf, nextDay}
 use Rattle.carry.specs.Energy.{Quarter, powers, exactSum, Within, householdBound, otherBound}
 use Rattle.carry.specs.Carry.{largestCarry, figures, lastCarry}
 use Rattle.call_request.specs.Request.{Request, quarters, series, requestCheck}
+use Rattle.call_expansion.specs.declared.Expansion.{Expansion}
 use Rattle.call_expansion.specs.declared.ExpansionReport.{ExpansionReport}
 use Rattle.call_expansion.specs.Answered.{answered, reported}
 use Rattle.call_expand.specs.Expanding.{expandCheck, totals, expansion, Reports}
@@ -23,17 +24,17 @@ use Rattle.claim_successive.specs.Reports.{isAccepted, ExpandReports}
 -- a call of expanding: what it was given, the report that it answered, and its output afterwards
 pub record Call : Type 0 where
   pub given : Request
-  pub answer : ExpansionReport
+  pub report : ExpansionReport
   pub after : List ℕ
 
 -- its result is what the contract of the exported call gives; by `ExpandReports` the calls of `expand` are among these
 abbrev pub ByContract : Call → Type 0
-ByContract c = Reports (c .given) (c .answer) (c .after)
+ByContract c = Reports (c .given) (c .report) (c .after)
 
 -- the accepted ones of a list, in its order
 unfoldable pub accepted : List Call → List Call
 accepted [] = []
-accepted (c ∷ calls) = cond (isAccepted (c .answer)) (c ∷ accepted calls) (accepted calls)
+accepted (c ∷ calls) = cond (isAccepted (c .report)) (c ∷ accepted calls) (accepted calls)
 
 -- What a list of calls comes to.
 
@@ -43,7 +44,7 @@ carryAfter carry report = cond (isAccepted report) (report .carry) carry
 
 -- "Figures are taken as each call leaves them"
 abbrev pub figuresOf : Call → List ℕ
-figuresOf c = take (c .answer .count) (c .after)
+figuresOf c = take (c .report .count) (c .after)
 
 -- "and joined in the order of the calls; counts and totals are added as whole numbers"
 unfoldable pub joinedFigures : List Call → List ℕ
@@ -52,15 +53,15 @@ joinedFigures (c ∷ calls) = figuresOf c ++ joinedFigures calls
 
 unfoldable pub addedCounts : List Call → ℕ
 addedCounts [] = 0
-addedCounts (c ∷ calls) = c .answer .count + addedCounts calls
+addedCounts (c ∷ calls) = c .report .count + addedCounts calls
 
 unfoldable pub addedTotals : List Call → ℕ
 addedTotals [] = 0
-addedTotals (c ∷ calls) = c .answer .total + addedTotals calls
+addedTotals (c ∷ calls) = c .report .total + addedTotals calls
 
 unfoldable pub carryAfterAll : ℕ → List Call → ℕ
 carryAfterAll carry [] = carry
-carryAfterAll carry (c ∷ calls) = carryAfterAll (carryAfter carry (c .answer)) calls
+carryAfterAll carry (c ∷ calls) = carryAfterAll (carryAfter carry (c .report)) calls
 
 -- The assumption, on the accepted calls alone.
 
@@ -84,7 +85,7 @@ unfoldable pub Successive : Common → ℕ → List Call → Type 0
 Successive common carry [] = Unit {0}
 Successive common carry (c ∷ calls) =
     (commonOf (c .given) ≡ common) × (c .given .carry ≡ carry) × NextBegins c calls
-    × Successive common (carryAfter carry (c .answer)) calls
+    × Successive common (carryAfter carry (c .report)) calls
 
 -- The whole.
 
@@ -103,9 +104,9 @@ IsWhole common start (c ∷ calls) whole =
 -- "the joined figures, added counts, added totals and last carry are exactly those of one call for the whole period"
 pub record SameAsWhole (start : ℕ) (calls : List Call) (whole : Call) : Type 0 where
   pub figuresJoin : joinedFigures calls ≡ figuresOf whole
-  pub countsAdd : addedCounts calls ≡ whole .answer .count
-  pub totalsAdd : addedTotals calls ≡ whole .answer .total
-  pub lastCarryIs : carryAfterAll start calls ≡ carryAfter start (whole .answer)
+  pub countsAdd : addedCounts calls ≡ whole .report .count
+  pub totalsAdd : addedTotals calls ≡ whole .report .total
+  pub lastCarryIs : carryAfterAll start calls ≡ carryAfter start (whole .report)
 
 -- A run.
 
@@ -113,7 +114,7 @@ pub record SameAsWhole (start : ℕ) (calls : List Call) (whole : Call) : Type 0
 -- changes"
 unfoldable pub joinedQuarters : List Call → List Quarter
 joinedQuarters [] = []
-joinedQuarters (c ∷ calls) = cond (isAccepted (c .answer)) (quarters (c .given)) [] ++ joinedQuarters calls
+joinedQuarters (c ∷ calls) = cond (isAccepted (c .report)) (quarters (c .given)) [] ++ joinedQuarters calls
 
 -- "any consecutive n quarter hours": those after the first k
 abbrev pub run : {A : Type 0} → ℕ → ℕ → List A → List A
@@ -139,14 +140,14 @@ pub record NothingJoined (start : ℕ) (calls : List Call) : Type 0 where
 
 -- "every call's answer and figures are those that document 01 defines"
 pub record AsDefined (c : Call) : Type 0 where
-  pub answerIs : c .answer ≡ reported (expansion (c .given))
+  pub answerIs : c .report ≡ reported (expansion (c .given))
   pub figuresAre : figuresOf c ≡ onPass (expandCheck (c .given)) (series (c .given)) []
 
 -- what is claimed of a list of calls
 pub record JoinedCalls (common : Common) (start : ℕ) (calls : List Call) : Type 0 where
   pub defined : Each AsDefined calls
   pub nothing : accepted calls ≡ [] → NothingJoined start calls
-  pub whole : (c : Call) → ByContract c → IsWhole common start (accepted calls) (c .given) → isAccepted (c .answer) ≡ true → SameAsWhole start calls c
+  pub whole : (c : Call) → ByContract c → IsWhole common start (accepted calls) (c .given) → isAccepted (c .report) ≡ true → SameAsWhole start calls c
   -- the joined figures, counts, totals and last carry are those that document 01 defines, also past 1,461 days
   pub figuresAre : joinedFigures calls ≡ figures (common .yearly) (powers (joinedQuarters calls)) start
   pub countsAre : addedCounts calls ≡ length (joinedFigures calls)
@@ -165,14 +166,19 @@ pub record Piece (whole piece : Request) : Type 0 where
   pub carryInRange : piece .carry ≤ largestCarry
 
 -- "it passes every question but 12, and 12 where its own output is long enough"
-pub record OutputAlone (piece : Request) : Type 0 where
-  pub others : requestCheck piece ≡ Pass
-  pub answerIs : expansion piece ≡ answered (roomQuestion (length (series piece)) (length (piece .output))) (totals piece)
+unfoldable pub pieceAnswer : Request → Expansion
+pieceAnswer piece = answered (roomQuestion (length (series piece)) (length (piece .output))) (totals piece)
+
+pub record OutputAlone (piece : Call) : Type 0 where
+  pub others : requestCheck (piece .given) ≡ Pass
+  pub answerIs : expansion (piece .given) ≡ pieceAnswer (piece .given)
+  pub reportIs : piece .report ≡ reported (pieceAnswer (piece .given))
 
 -- The theorem. Proved in proofs/SuccessiveCalls.antt.
 unfoldable pub SuccessiveCalls : Type 0
 SuccessiveCalls =
     ((common : Common) (start : ℕ) (calls : List Call) →
     start ≤ largestCarry → Each ByContract calls → Successive common start (accepted calls) → JoinedCalls common start calls)
-    × ((whole : Call) (piece : Request) → ByContract whole → isAccepted (whole .answer) ≡ true → Piece (whole .given) piece → OutputAlone piece)
+    × ((whole piece : Call) → ByContract whole → isAccepted (whole .report) ≡ true →
+    ByContract piece → Piece (whole .given) (piece .given) → OutputAlone piece)
     × ExpandReports

@@ -15,7 +15,7 @@ use Rattle.calendar_dates.specs.declared.Date.{Date}
 use Rattle.calendar_dates.specs.Dates.{dayOfYear}
 use Rattle.calendar_days.specs.declared.Clock.{Clock}
 use Rattle.calendar_days.specs.declared.Clock.the-variants.{Unchanged, Forward, Back}
-use Rattle.calendar_days.specs.Days.{season, dayType, clock, positions, countUnder}
+use Rattle.calendar_days.specs.Days.{season, dayType, clock, positions, valueCountUnder}
 use Rattle.calendar_laws.specs.Positions.{CountedPositions}
 use Rattle.calendar_laws.proofs.Positions.{counted-positions}
 use Rattle.dynamisation.specs.Dynamisation.{X, F, Q}
@@ -59,7 +59,7 @@ length-day-values values holidays d h =
     length-table (dayTableIndex (season d) (dayType d holidays)) values (omega arith)
 
 module _ (b : Basis) (d : Date) where
-  pub length-day-quarters : length (b .values) ≡ 864 → length (dayQuarters b d) ≡ countUnder (clock d)
+  pub length-day-quarters : length (b .values) ≡ 864 → length (dayQuarters b d) ≡ valueCountUnder (clock d)
   unfolding dayQuarters CountedPositions
   length-day-quarters h =
       counted-positions Quarter (clock d) _ (length-map (dayValues (b .values) (b .holidays) d) _ ∙ length-day-values (b .values) (b .holidays) d h)

@@ -12,7 +12,7 @@ ghost use Rattle.refusal.specs.Questions.{reported};
 ghost use Rattle.file_group.specs.Group.{check};
 ghost use Rattle.file_locate.specs.Locating.{locatedPart};
 ghost use Rattle.file_read.specs.Reading.{readCheck, tableAfter};
-ghost use Rattle.file_compare.specs.Comparing.{comparison, reportedComparison};
+ghost use Rattle.file_compare.specs.Comparing.{comparison, reported as reportedComparison};
 ghost use Rattle.file_write_check.specs.WriteCheck.{writeCheck};
 ghost use Rattle.file_write.specs.Buffer.{bufferAfter};
 ghost use Rattle.call_day.specs.Enquiry.{dayEnquiry, reported as reportedDay};

@@ -11,11 +11,11 @@ use Rattle.file_check.specs.Check.{fileCheck}
 use Rattle.file_group.specs.Group.{groupQuestion, check, tableOf}
 use Rattle.file_compare.specs.declared.Comparison.{Comparison}
 use Rattle.file_compare.specs.declared.Comparison.the-variants.{Alike, Different}
-use Rattle.file_compare.specs.Comparing.{compareCheck, same, comparison, reportedComparison}
+use Rattle.file_compare.specs.Comparing.{compareCheck, same, comparison, reported}
 
 -- an answer is also given in figures
-pub as-reported : {answer is : Comparison} → answer ≡ is → (answer ≡ is) × (reportedComparison answer ≡ reportedComparison is)
-as-reported h = (h, ap reportedComparison h)
+pub as-reported : {answer is : Comparison} → answer ≡ is → (answer ≡ is) × (reported answer ≡ reported is)
+as-reported h = (h, ap reported h)
 
 module _ (file : List ℕ) (first second : ℕ) where
   -- the questions of the first group alone decide, then those of the second

@@ -44,7 +44,7 @@ AlikeIsEqual =
     × (tableOf file first ≡ tableOf file second → comparison file first second ≡ Alike)
 
 -- the figures for each case of the answer; 1 for alike is our choice
-abbrev pub reportedComparison : Comparison → ComparisonReport
-reportedComparison Alike = record { number = 0; place = 0; alike = 1 }
-reportedComparison Different = record { number = 0; place = 0; alike = 0 }
-reportedComparison (Comparison.Refused r) = record { number = refusalNumber r; place = refusalPlace r; alike = 0 }
+abbrev pub reported : Comparison → ComparisonReport
+reported Alike = record { number = 0; place = 0; alike = 1 }
+reported Different = record { number = 0; place = 0; alike = 0 }
+reported (Comparison.Refused r) = record { number = refusalNumber r; place = refusalPlace r; alike = 0 }

@@ -4,7 +4,7 @@ use refusal::Refusal;
 ghost use mathlib.Core.Path.{_≡_};
 ghost use lib.ListN.{length};
 ghost use Rattle.big_endian.specs.Inside.{wordsOf};
-ghost use Rattle.file_compare.specs.Comparing.{same, comparison, reportedComparison};
+ghost use Rattle.file_compare.specs.Comparing.{same, comparison, reported};
 
 // What comparing two groups says.
 pub enum Comparison {
@@ -41,7 +41,7 @@ fn same_values(a: &[u8], b: &[u8]) -> bool
 // Alike exactly when all values of the two groups agree.
 pub fn compare(file: &[u8], first: u8, second: u8) -> Comparison
     ensures { λ r. ⌜ r ≡ comparison (now (file .entry)) first second ⌝ }
-    ensures { λ r. ⌜ reportedComparison r ≡ reportedComparison (comparison (now (file .entry)) first second) ⌝ }
+    ensures { λ r. ⌜ reported r ≡ reported (comparison (now (file .entry)) first second) ⌝ }
 {
     let a = match file_group::find_checked(file, first) {
         Found::At(at) => at,
@@ -62,7 +62,7 @@ pub fn compare(file: &[u8], first: u8, second: u8) -> Comparison
 }
 
 fn report_refusal(refusal: Refusal) -> ComparisonReport
-    ensures { λ r. ⌜ r ≡ reportedComparison (Comparison.Refused refusal) ⌝ }
+    ensures { λ r. ⌜ r ≡ reported (Comparison.Refused refusal) ⌝ }
 {
     ComparisonReport {
         number: refusal::number_of(refusal),
@@ -73,7 +73,7 @@ fn report_refusal(refusal: Refusal) -> ComparisonReport
 
 // The answer in figures: 1 for alike, 0 for different and on a refusal.
 pub fn report(answer: Comparison) -> ComparisonReport
-    ensures { λ r. ⌜ r ≡ reportedComparison answer ⌝ }
+    ensures { λ r. ⌜ r ≡ reported answer ⌝ }
 {
     match answer {
         Comparison::Alike => ComparisonReport {

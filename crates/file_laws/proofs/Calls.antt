@@ -14,8 +14,8 @@ use Rattle.file_read.specs.Reading.{readCheck}
 use Rattle.file_written.specs.Written.{written}
 use Rattle.file_write_check.specs.WriteCheck.{writeCheck}
 use Rattle.file_write.specs.Buffer.{bufferAfter}
-use Rattle.file_laws.specs.RoundTrip.{codesOf, valuesOf, WrittenReadsBack, AcceptedIsRewritten}
-use Rattle.file_laws.specs.Calls.{Reads, tableNumber, fileIn, WriteThenRead, ReadThenWrite}
+use Rattle.file_laws.specs.RoundTrip.{codesOf, valuesOf, tableNumber, WrittenReadsBack, AcceptedIsRewritten}
+use Rattle.file_laws.specs.Calls.{Reads, fileIn, WriteThenRead, ReadThenWrite}
 use Rattle.file_laws.proofs.RoundTrip.{written-reads-back, accepted-is-rewritten}
 
 -- `read` fills the table with a group's values where questions 1 to 6 pass

@@ -2,7 +2,7 @@
 -- calls `write` and `read` themselves, by what their contracts say they answer and leave in lent memory. Proved in proofs/Calls.antt.
 use mathlib.Core.Path.{_≡_}
 use mathlib.Core.List.{List, _++_}
-use Prim.Native.Nat.{ℕ, _*_, _≤_, _<_}
+use Prim.Native.Nat.{ℕ, _≤_, _<_}
 use lib.ListN.{length, take, drop, getD}
 use Rattle.refusal.specs.declared.Verdict.the-variants.{Pass}
 use Rattle.file_check.specs.Check.{fileCheck}
@@ -10,7 +10,7 @@ use Rattle.file_read.specs.Reading.{readCheck, tableAfter}
 use Rattle.file_written.specs.Written.{written}
 use Rattle.file_write_check.specs.WriteCheck.{writeCheck}
 use Rattle.file_write.specs.Buffer.{bufferAfter}
-use Rattle.file_laws.specs.RoundTrip.{Below, codesOf, valuesOf}
+use Rattle.file_laws.specs.RoundTrip.{Below, codesOf, valuesOf, tableNumber}
 
 -- `read` of a group: with a lent table of 864 entries or more it is accepted, fills the first 864 and keeps those beyond
 pub record Reads (file : List ℕ) (group : ℕ) (values : List ℕ) : Type 0 where
@@ -22,10 +22,6 @@ pub record Reads (file : List ℕ) (group : ℕ) (values : List ℕ) : Type 0 wh
 pub record Writes (codes values file : List ℕ) : Type 0 where
   pub passes : (buffer : List ℕ) → length file ≤ length buffer → writeCheck codes values (length buffer) ≡ Pass
   pub fills : (buffer : List ℕ) → length file ≤ length buffer → bufferAfter codes values buffer ≡ file ++ drop (length file) buffer
-
--- the i-th group's 864 of all values
-abbrev pub tableNumber : ℕ → List ℕ → List ℕ
-tableNumber i values = take 864 (drop (i * 864) values)
 
 -- the file that an accepted `write` leaves at the start of its buffer
 abbrev pub fileIn : List ℕ → List ℕ → List ℕ → List ℕ

@@ -33,6 +33,10 @@ codesOf file = codesFrom (layoutOf file) file (layoutOf file .count) headerLengt
 abbrev pub valuesOf : List ℕ → List ℕ
 valuesOf file = valuesFrom (layoutOf file) file (layoutOf file .count) headerLength
 
+-- the i-th group's 864 of all values
+abbrev pub tableNumber : ℕ → List ℕ → List ℕ
+tableNumber i values = take 864 (drop (i * 864) values)
+
 -- what writing makes of an accepted writing is an accepted file of these codes, and reading each of its groups gives that
 -- group's values
 unfoldable pub WrittenReadsBack : Type 0
@@ -41,7 +45,7 @@ WrittenReadsBack =
     (codesOf (written codes values) ≡ codes)
     × ((i : ℕ) → i < length codes →
     (check (written codes values) (getD codes i 0) ≡ Pass)
-    × (tableOf (written codes values) (getD codes i 0) ≡ take 864 (drop (i * 864) values)))
+    × (tableOf (written codes values) (getD codes i 0) ≡ tableNumber i values))
 
 -- "each accepted file equals what writing makes of its contents": writing accepts them wherever the buffer is as long as the file
 unfoldable pub AcceptedIsRewritten : Type 0

@@ -24,7 +24,7 @@ pub fn put_answer(
         (now (page .entry)) 0 r (now (page .exit)) ⌝ }
 {
     let opening = match call_open::open(file, group, first, last, holidays, yearly, 0) {
-        Opened::Request(opening) => opening,
+        Opened::Open(opening) => opening,
         Opened::Refused(refusal) => return program_refusal::put_refused_line(refusal, page, 0),
     };
     let values = file_read::table_at(file, opening.at);

@@ -20,7 +20,7 @@ use Rattle.calendar_holidays.specs.Holidays.{holidayQuestion, holidaysQuestion}
 use Rattle.program_input.specs.declared.Head.{Head}
 use Rattle.program_input.specs.declared.Headed.{Headed}
 use Rattle.program_input.specs.Input.{headLength, listLength, inputQuestion, requestIn}
-use Rattle.program_input.specs.Inside.{headOf, headedBy, Complete, askedEntries}
+use Rattle.program_input.specs.Inside.{headOf, headedBy, CompleteInput, askedEntries}
 
 -- what an answer tells of question 13, and the other way round
 pub headed-complete : (v : Verdict) {head given : Head} → Headed.Complete head ≡ headedBy v given → (v ≡ Pass) × (head ≡ given)
@@ -37,7 +37,7 @@ answers-complete p e = rw (p, e)
 pub answers-refused : {v : Verdict} {r : Refusal} (given : Head) → v ≡ Verdict.Refused r → Headed.Refused r ≡ headedBy v given
 answers-refused given h = rw h
 
-pub complete : (input : List ℕ) {head : Head} → inputQuestion input ≡ Pass → head ≡ headOf input → Complete input (head .listed)
+pub complete : (input : List ℕ) {head : Head} → inputQuestion input ≡ Pass → head ≡ headOf input → CompleteInput input (head .listed)
 unfolding inputQuestion
 complete input h e =
     let all = both _ _ (ask-passed _ BadInput h) in

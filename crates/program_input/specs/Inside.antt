@@ -10,7 +10,7 @@ use Rattle.program_input.specs.declared.Head.{Head}
 use Rattle.program_input.specs.declared.Headed.{Headed}
 use Rattle.program_input.specs.Input.{headLength, listLength, fileStart}
 
--- the head where question 13 passed, else the refusal
+-- the numbers at the start of an input
 abbrev pub headOf : List ℕ → Head
 headOf input =
     record {
@@ -21,12 +21,13 @@ headOf input =
       listed = listLength input;
     }
 
+-- the head where question 13 passed, else the refusal
 abbrev pub headedBy : Verdict → Head → Headed
 headedBy Pass head = Headed.Complete head
 headedBy (Refused r) head = Headed.Refused r
 
 -- question 13 passed, and the list's length is known
-pub record Complete (input : List ℕ) (listed : ℕ) : Type 0 where
+pub record CompleteInput (input : List ℕ) (listed : ℕ) : Type 0 where
   pub small : length input ≤ 65_536
   pub head : headLength ≤ length input
   pub list : fileStart input ≤ length input

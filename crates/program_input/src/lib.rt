@@ -4,7 +4,7 @@ ghost use mathlib.Core.Path.{_≡_};
 ghost use Prim.Native.Nat.{_≤_, _<_};
 ghost use lib.ListN.{length, drop};
 ghost use Rattle.program_input.specs.Input.{headLength, fileStart, inputQuestion};
-ghost use Rattle.program_input.specs.Inside.{headOf, headedBy, Complete, ListRead};
+ghost use Rattle.program_input.specs.Inside.{headOf, headedBy, CompleteInput, ListRead};
 
 // Group, two dates, A and list length.
 pub const HEAD_LENGTH: usize = 15;
@@ -59,7 +59,7 @@ pub fn head_in(input: &[u8]) -> Headed
 
 // Fills the first places of `list` with the input's list, as many as question 9 can ask about, and answers how many.
 pub fn read_list(input: &[u8], listed: usize, list: &mut [u32]) -> usize
-    requires { ⌜ Complete (now input) listed ⌝ }
+    requires { ⌜ CompleteInput (now input) listed ⌝ }
     requires { ⌜ 401 ≤ length (now list) ⌝ }
     ensures { λ r. ⌜ ListRead (now (input .entry)) (now (list .entry)) r (now (list .exit)) ⌝ }
 {
@@ -79,7 +79,7 @@ pub fn read_list(input: &[u8], listed: usize, list: &mut [u32]) -> usize
 
 // The profile file, behind the list.
 pub fn file_of(input: &[u8], listed: usize) -> &[u8]
-    requires { ⌜ Complete (now input) listed ⌝ }
+    requires { ⌜ CompleteInput (now input) listed ⌝ }
     ensures { λ r. ⌜ now r ≡ drop (fileStart (now (input .entry))) (now (input .entry)) ⌝ }
 {
     let start = HEAD_LENGTH + listed * 4;

@@ -8,7 +8,7 @@ use Rattle.lists.specs.Lists.{sum}
 use Rattle.calendar_dates.specs.declared.Date.{Date}
 use Rattle.calendar_days.specs.declared.Clock.{Clock}
 use Rattle.calendar_days.specs.declared.DayKind.{DayKind}
-use Rattle.calendar_days.specs.Days.{dayKind, clock, countUnder}
+use Rattle.calendar_days.specs.Days.{dayKind, clock, valueCountUnder}
 use Rattle.calendar_period.proofs.Period.{clock-small}
 use Rattle.carry.proofs.Carry.{length-figures}
 use Rattle.carry_quotients.specs.declared.Carried.{Carried}
@@ -32,7 +32,7 @@ module _ (b : Basis) (sound : GroupValues (b .values)) (d : Date) {all : List �
   total-fits room did = omega (arith, own-total did, room .total)
 
   pub day-listed : {yearly : ℕ} {before : Lines} {page after : List ℕ} {t : Carried} {kind : DayKind} {n r : ℕ} →
-      DayTotal all c yearly (before .totals .carry) t → n ≡ countUnder c → kind ≡ dayKind d (b .holidays) →
+      DayTotal all c yearly (before .totals .carry) t → n ≡ valueCountUnder c → kind ≡ dayKind d (b .holidays) →
       Put (dayLine kind (rowOf d n (t .total))) page (before .at) r after →
       DayListed b yearly d before page
       (record { at = r; totals = record { count = before .totals .count + n; total = before .totals .total + t .total; carry = t .carry } }) after

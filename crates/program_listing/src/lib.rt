@@ -38,7 +38,7 @@ fn list_day(
         before (now (page .entry)) r (now (page .exit)) ⌝ }
 {
     let clock = calendar_days::clock_of(day.date, day.weekday);
-    let values_today = calendar_days::count_under(clock) as usize;
+    let values_today = calendar_days::value_count_under(clock) as usize;
     let count = before.totals.count + values_today;
     let kind = series::kind_on(day, holidays, place);
     let powers = series::powers_on(values, group, day, kind);

@@ -1,4 +1,4 @@
--- Document 01, "The program": what the call that prints answers, and what it leaves on the lent page, accepted and refused.
+-- Document 01, "The program": what the call that makes its text answers, and what it leaves on the lent page, accepted and refused.
 use mathlib.Core.List.{List}
 use Prim.Native.Nat.{ℕ}
 use lib.ListN.{length}

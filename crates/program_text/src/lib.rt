@@ -6,7 +6,7 @@ ghost use Prim.Native.Nat.{_≤_};
 ghost use lib.ListN.{length};
 ghost use Rattle.text.specs.Inside.{Put};
 ghost use Rattle.program_input.specs.Input.{requestIn};
-ghost use Rattle.program_input.specs.Inside.{headOf, Complete};
+ghost use Rattle.program_input.specs.Inside.{headOf, CompleteInput};
 ghost use Rattle.program_answer.specs.Accepted.{pageLength};
 ghost use Rattle.program_answer.specs.Inside.{linesOf};
 ghost use Rattle.program_text.specs.Printed.{printed};
@@ -14,7 +14,7 @@ ghost use Rattle.program_text.specs.Printed.{printed};
 // Answers the request behind a head.
 fn answer(input: &[u8], head: Head, page: &mut [u8]) -> usize
     requires { ⌜ head ≡ headOf (now input) ⌝ }
-    requires { ⌜ Complete (now input) (head .listed) ⌝ }
+    requires { ⌜ CompleteInput (now input) (head .listed) ⌝ }
     requires { ⌜ pageLength ≤ length (now page) ⌝ }
     ensures { λ r. ⌜ Put (linesOf (requestIn (now (input .entry)))) (now (page .entry)) 0 r (now (page .exit)) ⌝ }
 {

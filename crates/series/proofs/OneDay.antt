@@ -12,7 +12,7 @@ use Rattle.calendar_dates.specs.Dates.{isDate, dayOfYear}
 use Rattle.calendar_dates.proofs.Dates.{leap-small, day-of-year-range}
 use Rattle.calendar_days.specs.declared.DayKind.{DayKind}
 use Rattle.calendar_days.specs.declared.Clock.{Clock}
-use Rattle.calendar_days.specs.Days.{dayKind, clock, positions, countUnder}
+use Rattle.calendar_days.specs.Days.{dayKind, clock, positions, valueCountUnder}
 use Rattle.calendar_period.specs.declared.CalendarDay.{CalendarDay}
 use Rattle.calendar_period.specs.Inside.{RealDay}
 use Rattle.calendar_period.proofs.Period.{own-t}
@@ -73,14 +73,14 @@ module _ (b : Basis) (sound : GroupValues (b .values)) (d : Date) where
     pub changed : positions c all ≡ dayPowers b d
     changed = rw (e, k) (sym (day-powers-positions b d))
 
-    pub counted : length (dayPowers b d) ≡ countUnder c
+    pub counted : length (dayPowers b d) ≡ valueCountUnder c
     counted = rw k (length-map (dayQuarters b d) _ ∙ length-day-quarters b d (sound .whole))
 
     pub powers-asked : {yearly carry : ℕ} → isDate d ≡ true → InRange yearly carry → SmallPowers all yearly carry
     powers-asked h range = record { small = rw e (day-powers-small h); yearlySmall = range .yearlySmall; inRange = range .carrySmall }
 
     module _ {yearly : ℕ} {before : Totals} {out : List ℕ} (room : Room yearly (dayPowers b d) before out) where
-      pub carry-asked : isDate d ≡ true → InRange yearly (before .carry) → SmallPowers all yearly (before .carry) × (before .count + countUnder c ≤ length out)
+      pub carry-asked : isDate d ≡ true → InRange yearly (before .carry) → SmallPowers all yearly (before .carry) × (before .count + valueCountUnder c ≤ length out)
       carry-asked h range =
           let entries = room .entries in
           let n = counted in
@@ -89,7 +89,7 @@ module _ (b : Basis) (sound : GroupValues (b .values)) (d : Date) where
       pub total-fits : {total : ℕ} → total ≡ sum (figures yearly (positions c all) (before .carry)) → before .total + total < 2 ^ 64
       total-fits h = let t = room .total in omega (arith, rw changed at h)
 
-      pub added : {r : Carried} {after : List ℕ} {n : ℕ} → DayCarried all c yearly (before .carry) out (before .count) r after → n ≡ countUnder c → Added yearly (dayPowers b d) before out
+      pub added : {r : Carried} {after : List ℕ} {n : ℕ} → DayCarried all c yearly (before .carry) out (before .count) r after → n ≡ valueCountUnder c → Added yearly (dayPowers b d) before out
           (record { count = before .count + n; total = before .total + r .total; carry = r .carry }) after
       added did same =
           let n = counted in

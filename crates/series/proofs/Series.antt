@@ -10,7 +10,7 @@ use Rattle.lists.specs.Lists.{Each}
 use Rattle.lists.proofs.Members.{each-append}
 use Rattle.calendar_dates.specs.declared.Date.{Date}
 use Rattle.calendar_dates.specs.Dates.{nextDay, daysLater}
-use Rattle.calendar_period.specs.Period.{countOfDays}
+use Rattle.calendar_period.specs.Period.{valueCountOfDays}
 use Rattle.carry.specs.Energy.{Quarter}
 use Rattle.day_powers.specs.DayQuarters.{Basis, dayQuarters}
 use Rattle.day_powers.proofs.DayQuarters.{length-day-quarters}
@@ -45,8 +45,8 @@ module _ (day : Date → List Quarter) where
       (each-quarter property n (nextDay d) (λ k l. h (suc k) (omega arith)))
 
 -- "entries needed": as many quarter hours as the days have values
-pub length-quarters : (b : Basis) (n : ℕ) (d : Date) → length (b .values) ≡ 864 → length (quartersOfDays (dayQuarters b) n d) ≡ countOfDays n d
-unfolding quartersOfDays countOfDays
+pub length-quarters : (b : Basis) (n : ℕ) (d : Date) → length (b .values) ≡ 864 → length (quartersOfDays (dayQuarters b) n d) ≡ valueCountOfDays n d
+unfolding quartersOfDays valueCountOfDays
 length-quarters b zero d h = refl
 length-quarters b (suc n) d h =
     length-append (dayQuarters b d) _

@@ -65,7 +65,7 @@ fn expand_day(
 {
     let clock = calendar_days::clock_of(day.date, day.weekday);
     let at = before.count;
-    let count = at + calendar_days::count_under(clock) as usize;
+    let count = at + calendar_days::value_count_under(clock) as usize;
     let kind = kind_on(day, holidays, place);
     let carried = carry_day::carry_day(
         powers_on(values, group, day, kind),

@@ -7,7 +7,7 @@ use lib.IntN.{pos, natAbs}
 use lib.ListN.{length}
 use Rattle.calendar_dates.specs.declared.Date.{Date}
 use Rattle.calendar_dates.specs.Dates.{isDate, dayOfYear, daysLater}
-use Rattle.calendar_period.specs.Period.{countOfDays}
+use Rattle.calendar_period.specs.Period.{valueCountOfDays}
 use Rattle.dynamisation.specs.Dynamisation.{X}
 use Rattle.carry.specs.Energy.{Quarter}
 use Rattle.day_powers.specs.DayQuarters.{Basis, dayQuarters}
@@ -25,7 +25,7 @@ PeriodsJoin =
 unfoldable pub CountedSeries : Type 0
 CountedSeries =
     (b : Basis) (n : ℕ) (d : Date) → length (b .values) ≡ 864 →
-    length (quartersOfDays (dayQuarters b) n d) ≡ countOfDays n d
+    length (quartersOfDays (dayQuarters b) n d) ≡ valueCountOfDays n d
 
 -- the theorem: X of a date's day is the whole number that its quarter hours have.
 unfoldable pub ExactX : Type 0

@@ -19,11 +19,11 @@ day-type-of-requires c κs = search needs
 clock-of-requires : tie.Need-clock-of-requires
 clock-of-requires c κs = search needs
 
-count-under-requires : tie.Need-count-under-requires
-count-under-requires c κs = search needs
+value-count-under-requires : tie.Need-value-count-under-requires
+value-count-under-requires c κs = search needs
 
 returns : tie.Need-returns
-returns c = rw (c .before .before .before .before .before .weekday-of .ensures, c .before .before .before .before .day-of-year .ensures, c .before .before .before .season-of .ensures, c .before .before .day-type-of .ensures, c .count-under .ensures, c .before .clock-of .ensures)
+returns c = rw (c .before .before .before .before .before .weekday-of .ensures, c .before .before .before .before .day-of-year .ensures, c .before .before .before .season-of .ensures, c .before .before .day-type-of .ensures, c .value-count-under .ensures, c .before .clock-of .ensures)
 
 pub describe-spec : {M : Type 1} → statement M
 describe-spec =
@@ -34,5 +34,5 @@ describe-spec =
     season-of-requires
     day-type-of-requires
     clock-of-requires
-    count-under-requires
+    value-count-under-requires
     returns)

@@ -17,16 +17,16 @@ returns c =
     let a = c .before .args in
     sym (room-enough _ _ (omega (arith, values-small (a .days) (a .first .date))))
 
-count-of-days-requires : tie.Need-count-of-days-requires
-count-of-days-requires c κs = search needs
+value-count-of-days-requires : tie.Need-value-count-of-days-requires
+value-count-of-days-requires c κs = search needs
 
 room-question-requires : tie.Need-room-question-requires
 room-question-requires c κs = search needs
 
 returns-2 : tie.Need-returns-2
 returns-2 c =
-    c .room-question .ensures ∙ ap (λ (n : ℕ). roomQuestion n (c .before .before .before .args .room)) (c .before .count-of-days .ensures)
+    c .room-question .ensures ∙ ap (λ (n : ℕ). roomQuestion n (c .before .before .before .args .room)) (c .before .value-count-of-days .ensures)
 
 pub room-question-spec : {M : Type 1} → statement M
 room-question-spec =
-    tie.close (tie.spec mul-if1 returns count-of-days-requires room-question-requires returns-2)
+    tie.close (tie.spec mul-if1 returns value-count-of-days-requires room-question-requires returns-2)

@@ -2,7 +2,7 @@
 use mathlib.Core.Path.{ap}
 use native.Mathlib.Omega.{arith}
 use borrow.Author.Needs.{needs}
-use Rattle.calendar_days.specs.Days.{countUnder}
+use Rattle.calendar_days.specs.Days.{valueCountUnder}
 use Rattle.carry_day.proofs.TwoRanges.{unchanged}
 use Rattle.carry_day.proofs.carry_day.Statement.{statement}
 use Rattle.carry_day.proofs.carry_day.Tie as tie
@@ -29,7 +29,7 @@ carry-range-requires : tie.Need-carry-range-requires
 carry-range-requires c κs =
     let told = c .before .before in
     let start = told .before .before .before in
-    let values = ap countUnder (told .enum-told .given .1) in
+    let values = ap valueCountUnder (told .enum-told .given .1) in
     (start .pre .0, record { ordered = omega arith; within = omega arith; whole = omega arith; room = omega (arith, values, start .pre .1) })
 
 same-length-2 : tie.Need-same-length-2

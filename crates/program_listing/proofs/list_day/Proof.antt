@@ -25,8 +25,8 @@ clock-of-requires c κs =
     let real = c .before .before .before .pre .1 .0 in
     (real .real, own-weekday real)
 
-count-under-requires : tie.Need-count-under-requires
-count-under-requires c κs = search needs
+value-count-under-requires : tie.Need-value-count-under-requires
+value-count-under-requires c κs = search needs
 
 cast-values-today : tie.Need-cast-values-today
 cast-values-today c = search needs
@@ -60,7 +60,7 @@ put-day-line-requires c κs =
     let today = c .before .before .before .before .before .before .before in
     let start = today .before .before .before .before .before in
     let few = clock-small (today .before .clock-of .result) in
-    (start .pre .1 .0 .real, (omega (arith, today .count-under .ensures), omega (arith, start .pre .1 .1 .1 .1 .line)))
+    (start .pre .1 .0 .real, (omega (arith, today .value-count-under .ensures), omega (arith, start .pre .1 .1 .1 .1 .line)))
 
 same-length : tie.Need-same-length
 same-length c = search needs
@@ -72,14 +72,14 @@ returns c =
     let asked = summed .before in
     let start = of-powers asked in
     day-listed (given start) (start .pre .0) (start .args .day .date) (own asked) (asked .before .before .before .before .clock-of .ensures)
-    (summed .total-day .ensures) (asked .before .before .before .count-under .ensures) (asked .before .kind-on .ensures) (put .put-day-line .ensures)
+    (summed .total-day .ensures) (asked .before .before .before .value-count-under .ensures) (asked .before .kind-on .ensures) (put .put-day-line .ensures)
 
 pub list-day-spec : {M : Type 1} → statement M
 list-day-spec =
     tie.close
     (tie.spec
     clock-of-requires
-    count-under-requires
+    value-count-under-requires
     cast-values-today
     add-count
     kind-on-requires

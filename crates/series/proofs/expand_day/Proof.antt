@@ -25,8 +25,8 @@ clock-of-requires c κs =
     let real = c .before .before .before .pre .1 .0 in
     (real .real, own-weekday real)
 
-count-under-requires : tie.Need-count-under-requires
-count-under-requires c κs = search needs
+value-count-under-requires : tie.Need-value-count-under-requires
+value-count-under-requires c κs = search needs
 
 cast-count : tie.Need-cast-count
 cast-count c = search needs
@@ -68,14 +68,14 @@ returns c =
     let asked = called .before .before in
     let start = of-powers asked in
     added (given start) (start .pre .0) (start .args .day .date) (own asked) (asked .before .before .before .clock-of .ensures) (start .pre .1 .1 .1 .1)
-    (called .carry-day .ensures) (asked .before .before .count-under .ensures)
+    (called .carry-day .ensures) (asked .before .before .value-count-under .ensures)
 
 pub expand-day-spec : {M : Type 1} → statement M
 expand-day-spec =
     tie.close
     (tie.spec
     clock-of-requires
-    count-under-requires
+    value-count-under-requires
     cast-count
     add-count
     kind-on-requires
