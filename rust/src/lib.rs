@@ -82,7 +82,7 @@ impl Refusal {
             6 => "the group is not in the file",
             7 => "a date is not real or not from 1996 to 2099",
             8 => "the period ends before it begins or has more than 1,461 days",
-            9 => "the list of holidays is not in order or has more than 400 dates",
+            9 => "a holiday is no date from 1996 to 2099, not later than the one before, or the 401st",
             10 => "the yearly use is above 1,000,000,000 kWh",
             11 => "the carry is above 39,999",
             12 => "the output is too short",

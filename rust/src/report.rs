@@ -1,4 +1,4 @@
-//! The calls as the library answers them: figures, with zeros where a call is refused. The functions of the crate's root
+//! The calls as the library answers them: numbers, with zeros where a call is refused. The functions of the crate's root
 //! answer the same as `Result`s. The structs are those of `include/slp.h`.
 #![allow(unsafe_code)]
 

@@ -39,7 +39,7 @@ answered (Verdict.Refused r) day = DayAnswer.Refused r
 unfoldable pub dayEnquiry : ℕ → List ℕ → DayAnswer
 dayEnquiry date holidays = answered (dayCheck date holidays) (describe (dateOf date) holidays)
 
--- the seasons' figures are our choice, by the order of the tables in the file; "day type (1 weekday, 2 Saturday, 3 Sunday)"
+-- the seasons' digits are our choice, by the order of the tables in the file; "day type (1 weekday, 2 Saturday, 3 Sunday)"
 abbrev pub seasonDigit : Season → ℕ
 seasonDigit Season.Winter = 1
 seasonDigit Season.Summer = 2
@@ -50,7 +50,7 @@ dayTypeDigit DayType.Weekday = 1
 dayTypeDigit DayType.Saturday = 2
 dayTypeDigit DayType.Sunday = 3
 
--- the figures for each case of the answer: an accepted enquiry has number and place 0
+-- the numbers for each case of the answer: an accepted enquiry has number and place 0
 abbrev pub reportedDay : Day → DayReport
 reportedDay day =
     record {

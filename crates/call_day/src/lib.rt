@@ -23,7 +23,7 @@ pub enum DayAnswer {
     Refused(Refusal),
 }
 
-// The answer as document 01's figures: number and place, 0 when accepted, and the day's figures, 0 when refused.
+// The answer as document 01's numbers: number and place, 0 when accepted, and the day's numbers, 0 when refused.
 #[repr(C)]
 pub struct DayReport {
     pub number: u32,
@@ -117,7 +117,7 @@ fn report_refusal(refusal: Refusal) -> DayReport
     }
 }
 
-// The answer as document 01's figures.
+// The answer as document 01's numbers.
 pub fn report(answer: DayAnswer) -> DayReport
     ensures { λ r. ⌜ r ≡ reported answer ⌝ }
 {

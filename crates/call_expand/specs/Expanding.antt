@@ -35,7 +35,7 @@ expansion q = answered (expandCheck q) (totals q)
 unfoldable pub outputAfter : Request → List ℕ
 outputAfter q = lentAfter (expandCheck q) (series q) (q .output)
 
--- the contract of expanding: what it answered, also in document 01's figures, and its output afterwards
+-- the contract of expanding: what it answered, also in document 01's numbers, and its output afterwards
 pub record Expands (q : Request) (answer : Expansion) (after : List ℕ) : Type 0 where
   pub answers : answer ≡ expansion q
   pub reports : reported answer ≡ reported (expansion q)

@@ -1,5 +1,5 @@
 -- Document 01, "The answer holds the count, the total in Wh .. and the last carry", and "A refusal gives number, place and zeros
--- elsewhere": what expanding answers, and the figures for each case of the answer.
+-- elsewhere": what expanding answers, and the numbers for each case of the answer.
 use Rattle.refusal.specs.declared.Verdict.{Verdict}
 use Rattle.refusal.specs.declared.Verdict.the-variants.{Pass, Refused}
 use Rattle.refusal.specs.Questions.{refusalNumber, refusalPlace}
@@ -12,7 +12,7 @@ abbrev pub answered : Verdict → Totals → Expansion
 answered Pass t = Expansion.Expanded t
 answered (Refused r) t = Expansion.Refused r
 
--- the figures for each case of the answer: an accepted call has number and place 0; "A refusal gives number, place and zeros
+-- the numbers for each case of the answer: an accepted call has number and place 0; "A refusal gives number, place and zeros
 -- elsewhere"
 abbrev pub reported : Expansion → ExpansionReport
 reported (Expansion.Expanded t) =

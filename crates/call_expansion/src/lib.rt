@@ -1,4 +1,4 @@
-// What expanding answers (document 01, "Series and carry"), and the answer as document 01's figures.
+// What expanding answers (document 01, "Series and carry"), and the answer as document 01's numbers.
 use carry::Totals;
 use refusal::Refusal;
 ghost use mathlib.Core.Path.{_≡_};
@@ -10,7 +10,7 @@ pub enum Expansion {
     Refused(Refusal),
 }
 
-// The answer as document 01's figures: number and place, 0 when accepted, and count, total and carry, 0 when refused.
+// The answer as document 01's numbers: number and place, 0 when accepted, and count, total and carry, 0 when refused.
 #[repr(C)]
 pub struct ExpansionReport {
     pub number: u32,
@@ -44,7 +44,7 @@ fn report_refusal(refusal: Refusal) -> ExpansionReport
     }
 }
 
-// The answer as document 01's figures.
+// The answer as document 01's numbers.
 pub fn report(answer: Expansion) -> ExpansionReport
     ensures { λ r. ⌜ r ≡ reported answer ⌝ }
 {

@@ -1,4 +1,4 @@
--- Expanding as it is called from outside: it answers document 01's figures, number, place, count, total and carry.
+-- Expanding as it is called from outside: it answers document 01's numbers, number, place, count, total and carry.
 use mathlib.Core.Path.{_≡_}
 use mathlib.Core.Bool.{Bool, true, false}
 use mathlib.Core.List.{List}

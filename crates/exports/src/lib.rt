@@ -1,5 +1,5 @@
 // The calls of document 01 for other languages: numbers and slices in, structs of numbers out. A slice goes as a pointer and a
-// length. Each has the contract of the call that it makes, by the figures of its answer.
+// length. Each has the contract of the call that it makes, by the numbers of its answer.
 use call_day::DayReport;
 use call_expansion::ExpansionReport;
 use file_compare::ComparisonReport;

@@ -43,7 +43,7 @@ AlikeIsEqual =
     (comparison file first second ≡ Alike → tableOf file first ≡ tableOf file second)
     × (tableOf file first ≡ tableOf file second → comparison file first second ≡ Alike)
 
--- the figures for each case of the answer; 1 for alike is our choice
+-- the numbers for each case of the answer; 1 for alike is our choice
 abbrev pub reported : Comparison → ComparisonReport
 reported Alike = record { number = 0; place = 0; alike = 1 }
 reported Different = record { number = 0; place = 0; alike = 0 }

@@ -13,7 +13,7 @@ pub enum Comparison {
     Refused(Refusal),
 }
 
-// The answer in figures: number and place are 0 when the groups were compared.
+// The answer in numbers: number and place are 0 when the groups were compared.
 #[repr(C)]
 pub struct ComparisonReport {
     pub number: u32,
@@ -71,7 +71,7 @@ fn report_refusal(refusal: Refusal) -> ComparisonReport
     }
 }
 
-// The answer in figures: 1 for alike, 0 for different and on a refusal.
+// The answer in numbers: 1 for alike, 0 for different and on a refusal.
 pub fn report(answer: Comparison) -> ComparisonReport
     ensures { λ r. ⌜ r ≡ reported answer ⌝ }
 {

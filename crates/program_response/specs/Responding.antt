@@ -25,7 +25,7 @@ responseTo input page = answered (responseCheck input (length page)) (length (pr
 abbrev pub pageAfter : List ℕ → List ℕ → List ℕ
 pageAfter input page = lentAfter (responseCheck input (length page)) (printed input) page
 
--- the figures for each case of the answer; "A refusal gives number, place and zeros elsewhere"
+-- the numbers for each case of the answer; "A refusal gives number, place and zeros elsewhere"
 abbrev pub reported : Response → ResponseReport
 reported (Response.Written written) = record { number = 0; place = 0; length = written }
 reported (Response.Refused r) = record { number = refusalNumber r; place = refusalPlace r; length = 0 }

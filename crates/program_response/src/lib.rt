@@ -14,7 +14,7 @@ pub enum Response {
     Refused(Refusal),
 }
 
-// The answer in figures: number and place, 0 when the text was written, and its length, 0 when refused.
+// The answer in numbers: number and place, 0 when the text was written, and its length, 0 when refused.
 #[repr(C)]
 pub struct ResponseReport {
     pub number: u32,
@@ -53,7 +53,7 @@ fn report_refusal(refusal: Refusal) -> ResponseReport
     }
 }
 
-// The answer in figures.
+// The answer in numbers.
 pub fn report(answer: Response) -> ResponseReport
     ensures { λ r. ⌜ r ≡ reported answer ⌝ }
 {

@@ -54,7 +54,7 @@ abbrev pub place : Verdict → ℕ
 place Pass = 0
 place (Refused r) = refusalPlace r
 
--- the two figures together
+-- the two numbers together
 abbrev pub reported : Verdict → CheckReport
 reported v = record { number = number v; place = place v }
 

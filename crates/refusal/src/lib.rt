@@ -25,7 +25,7 @@ pub enum Verdict {
     Refused(Refusal),
 }
 
-// A verdict in document 01's figures.
+// A verdict in document 01's numbers.
 #[repr(C)]
 pub struct CheckReport {
     pub number: u32,
@@ -74,7 +74,7 @@ pub fn place_of(r: Refusal) -> usize
     }
 }
 
-// The verdict in document 01's figures: number and place, both 0 when all pass.
+// The verdict in document 01's numbers: number and place, both 0 when all pass.
 pub fn report(v: Verdict) -> CheckReport
     ensures { λ r. ⌜ r ≡ reported v ⌝ }
 {

@@ -1,4 +1,4 @@
--- `file_compare::report` meets its contract: each case of the answer has its own figures.
+-- `file_compare::report` meets its contract: each case of the answer has its own numbers.
 -- Assumes nothing.
 use borrow.Author.Needs.{needs}
 use Rattle.file_compare.proofs.report.Statement.{statement}

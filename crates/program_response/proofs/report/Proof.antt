@@ -1,4 +1,4 @@
--- `program_response::report` meets its contract: each case of the answer has its own figures. Assumes nothing.
+-- `program_response::report` meets its contract: each case of the answer has its own numbers. Assumes nothing.
 use borrow.Author.Needs.{needs}
 use Rattle.program_response.proofs.report.Statement.{statement}
 use Rattle.program_response.proofs.report.Tie as tie
