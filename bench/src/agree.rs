@@ -1,6 +1,6 @@
 //! Holds all ways to the proved calls, the lent memory included: on the timed inputs, and on random ones, whole and damaged.
 use reference::calendar::{day_of, Day};
-use slp::{file_length, Refusal, Request, GROUP_VALUES};
+use slp::{file_length, Group, Refusal, RefusalKind, Request, GROUP_VALUES};
 
 use crate::calls::{Answer, Calls, Work, ALL, PROVED};
 use crate::inputs::Inputs;
@@ -56,10 +56,10 @@ pub fn on_timed_inputs(inputs: &Inputs) -> Result<(), String> {
 
 /// A random request to every call.
 struct Case {
-    codes: Vec<u8>,
+    groups: Vec<Group>,
     values: Vec<u16>,
     file: Vec<u8>,
-    group: u8,
+    group: Group,
     first: u32,
     last: u32,
     holidays: Vec<u32>,
@@ -69,10 +69,10 @@ struct Case {
     lent: [usize; 3],
 }
 
-fn draw_codes(random: &mut Random) -> Vec<u8> {
-    let start = random.below(11) as u8;
-    let chosen = |code: &u8| *code == start || random.once_in(2);
-    (0..=10).filter(chosen).collect()
+fn draw_groups(random: &mut Random) -> Vec<Group> {
+    let certain = random.one_of(&Group::ALL);
+    let chosen = |group: &Group| *group == certain || random.once_in(2);
+    Group::ALL.into_iter().filter(chosen).collect()
 }
 
 fn draw_values(random: &mut Random, count: usize) -> Vec<u16> {
@@ -105,13 +105,13 @@ fn damage_file(random: &mut Random, file: &mut Vec<u8>) {
     }
 }
 
-fn damage_contents(random: &mut Random, codes: &mut Vec<u8>, values: &mut Vec<u16>) {
-    let code = random.below(codes.len() as u32) as usize;
+fn damage_contents(random: &mut Random, groups: &mut Vec<Group>, values: &mut Vec<u16>) {
+    let group = random.below(groups.len() as u32) as usize;
     let value = random.below(values.len() as u32) as usize;
     match random.below(4) {
         0 => drop(values.pop()),
-        1 => codes.clear(),
-        2 => codes[code] = random.below(13) as u8,
+        1 => groups.clear(),
+        2 => groups[group] = random.one_of(&Group::ALL),
         _ => values[value] = bad_value(random),
     }
 }
@@ -150,21 +150,21 @@ fn draw_holidays(random: &mut Random, first: u32) -> Vec<u32> {
 
 impl Case {
     fn draw(random: &mut Random) -> Case {
-        let mut codes = draw_codes(random);
-        let mut values = draw_values(random, codes.len());
-        let mut file = vec![0; file_length(codes.len())];
-        slp::write(&codes, &values, &mut file).expect("the values are in range");
-        let any = random.below(12) as u8;
+        let mut groups = draw_groups(random);
+        let mut values = draw_values(random, groups.len());
+        let mut file = vec![0; file_length(groups.len())];
+        slp::write(&groups, &values, &mut file).expect("the values are in range");
+        let any = random.one_of(&Group::ALL);
         let group = if random.once_in(12) {
             any
         } else {
-            random.one_of(&codes)
+            random.one_of(&groups)
         };
         if random.once_in(4) {
             damage_file(random, &mut file);
         }
         if random.once_in(3) {
-            damage_contents(random, &mut codes, &mut values);
+            damage_contents(random, &mut groups, &mut values);
         }
         let (first, last) = draw_period(random);
         let mut holidays = draw_holidays(random, first);
@@ -195,10 +195,10 @@ impl Case {
             holidays,
             lent: [0; 3],
             file,
-            codes,
+            groups,
             values,
         };
-        case.lent = [case.needed(), GROUP_VALUES, file_length(case.codes.len())]
+        case.lent = [case.needed(), GROUP_VALUES, file_length(case.groups.len())]
             .map(|needed| (needed + random.one_of(&[1, 1, 4, 0])).saturating_sub(1));
         case
     }
@@ -218,7 +218,10 @@ impl Case {
     /// How many entries of output expanding asks for.
     fn needed(&self) -> usize {
         match slp::expand(&self.request(), &mut []) {
-            Err(Refusal { number: 12, place }) => place,
+            Err(Refusal {
+                kind: RefusalKind::ShortOutput,
+                place,
+            }) => place,
             _ => 100,
         }
     }
@@ -238,7 +241,7 @@ impl Case {
             work.answered = Some((calls.read)(&self.file, self.group, &mut work.table));
         })?;
         let written = same(lent, |calls, work| {
-            work.answered = Some((calls.write)(&self.codes, &self.values, &mut work.buffer));
+            work.answered = Some((calls.write)(&self.groups, &self.values, &mut work.buffer));
         })?;
         let answers = [
             expanded.expanded.map(|answer| answer.map(|_| ())),
@@ -263,7 +266,7 @@ pub fn on_random_requests() -> Result<[usize; 13], String> {
             )
         })?;
         for answer in answers {
-            tally[answer.map_or_else(|refusal| refusal.number as usize, |()| 0)] += 1;
+            tally[answer.map_or_else(|refusal| refusal.kind.number() as usize, |()| 0)] += 1;
         }
     }
     Ok(tally)

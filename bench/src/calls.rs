@@ -1,5 +1,5 @@
 //! The calls that are compared, for each implementation, and what they are lent and answer.
-use slp::{Expansion, Refusal, Request};
+use slp::{Expansion, Group, Refusal, RefusalKind, Request};
 
 use crate::{fast, kept};
 
@@ -7,9 +7,9 @@ pub type Answer = Result<(), Refusal>;
 
 pub struct Calls {
     pub name: &'static str,
-    pub check: fn(&[u8], u8) -> Answer,
-    pub read: fn(&[u8], u8, &mut [u16]) -> Answer,
-    pub write: fn(&[u8], &[u16], &mut [u8]) -> Answer,
+    pub check: fn(&[u8], Group) -> Answer,
+    pub read: fn(&[u8], Group, &mut [u16]) -> Answer,
+    pub write: fn(&[Group], &[u16], &mut [u8]) -> Answer,
     pub expand: fn(&Request, &mut [u32]) -> Result<Expansion, Refusal>,
 }
 
@@ -21,12 +21,16 @@ pub static PROVED: Calls = Calls {
     expand: slp::expand,
 };
 
-/// The reference: the plain safe Rust that an engineer would write from document 01, carry step by carry step.
+/// The reference: the plain safe Rust that an engineer would write from document 01, carry step by carry step. It takes codes;
+/// those of some groups are put into a list of their own, as `slp::write` does too.
 pub static PLAIN: Calls = Calls {
     name: "plain",
-    check: |file, group| reference::check(file, group).map_err(refusal),
-    read: |file, group, table| reference::read(file, group, table).map_err(refusal),
-    write: |codes, values, buffer| reference::write(codes, values, buffer).map_err(refusal),
+    check: |file, group| reference::check(file, group.code()).map_err(refusal),
+    read: |file, group, table| reference::read(file, group.code(), table).map_err(refusal),
+    write: |groups, values, buffer| {
+        let codes: Vec<u8> = groups.iter().map(|group| group.code()).collect();
+        reference::write(&codes, values, buffer).map_err(refusal)
+    },
     expand: |request, out| {
         let made = reference::expand(&reference_request(request), out).map_err(refusal)?;
         Ok(Expansion {
@@ -39,7 +43,7 @@ pub static PLAIN: Calls = Calls {
 
 fn refusal(no: reference::Refusal) -> Refusal {
     Refusal {
-        number: no.number,
+        kind: RefusalKind::from_number(no.number).expect("a call's question is one of 1 to 12"),
         place: no.place,
     }
 }
@@ -47,7 +51,7 @@ fn refusal(no: reference::Refusal) -> Refusal {
 fn reference_request<'a>(request: &Request<'a>) -> reference::Request<'a> {
     reference::Request {
         file: request.file,
-        group: request.group,
+        group: request.group.code(),
         first: request.first,
         last: request.last,
         holidays: request.holidays,

@@ -2,7 +2,7 @@
 //! No division waits for the one before it, the loops run over arrays of fixed length, and most are written so that the
 //! compiler puts several entries into one register of x86-64.
 use reference::calendar::{day_of, is_date};
-use slp::{Expansion, Refusal, Request};
+use slp::{Expansion, Group, Refusal, RefusalKind, Request};
 
 use crate::days::{values_of, Days};
 
@@ -12,8 +12,8 @@ const VALUES: usize = 864;
 
 pub type Table = [u8; 192];
 
-fn refuse<T>(number: u32, place: usize) -> Result<T, Refusal> {
-    Err(Refusal { number, place })
+fn refuse<T>(kind: RefusalKind, place: usize) -> Result<T, Refusal> {
+    Err(Refusal { kind, place })
 }
 
 // The profile file.
@@ -50,83 +50,79 @@ fn swap(bytes: &[u8], values: &mut [u16; VALUES]) {
 }
 
 /// Questions 1 to 6: the bytes of the group's values.
-fn find(file: &[u8], group: u8) -> Result<&[u8], Refusal> {
+fn find(file: &[u8], group: Group) -> Result<&[u8], Refusal> {
     let Some((head, profiles)) = file.split_first_chunk::<HEAD>() else {
-        return refuse(1, 0);
+        return refuse(RefusalKind::NoMark, 0);
     };
     if head[..3] != *b"SLP" {
-        return refuse(1, 0);
+        return refuse(RefusalKind::NoMark, 0);
     }
     if head[3..5] != [0, 1] {
-        return refuse(2, 0);
+        return refuse(RefusalKind::WrongVersion, 0);
     }
     let count = usize::from(head[5]);
     if count == 0 || count > 11 || profiles.len() != PROFILE * count {
-        return refuse(3, 0);
+        return refuse(RefusalKind::WrongLength, 0);
     }
     let (profiles, _) = profiles.as_chunks::<PROFILE>();
     let mut found = None;
     let mut least = 0;
     for (i, profile) in profiles.iter().enumerate() {
         if profile[0] < least || profile[0] > 10 {
-            return refuse(4, HEAD + PROFILE * i);
+            return refuse(RefusalKind::BadCode, HEAD + PROFILE * i);
         }
         least = profile[0] + 1;
-        if profile[0] == group {
+        if profile[0] == group.code() {
             found = Some(&profile[1..]);
         }
     }
     for (i, profile) in profiles.iter().enumerate() {
         if let Some(bad) = bad_value_in_bytes(&profile[1..]) {
-            return refuse(5, HEAD + PROFILE * i + 1 + 2 * bad);
+            return refuse(RefusalKind::BadValue, HEAD + PROFILE * i + 1 + 2 * bad);
         }
     }
     match found {
         Some(part) => Ok(part),
-        None => refuse(6, 0),
+        None => refuse(RefusalKind::NoGroup, 0),
     }
 }
 
-pub fn check(file: &[u8], group: u8) -> Result<(), Refusal> {
+pub fn check(file: &[u8], group: Group) -> Result<(), Refusal> {
     find(file, group).map(|_| ())
 }
 
-pub fn read(file: &[u8], group: u8, table: &mut [u16]) -> Result<(), Refusal> {
+pub fn read(file: &[u8], group: Group, table: &mut [u16]) -> Result<(), Refusal> {
     let part = find(file, group)?;
     let Some(table) = table.first_chunk_mut::<VALUES>() else {
-        return refuse(12, VALUES);
+        return refuse(RefusalKind::ShortOutput, VALUES);
     };
     swap(part, table);
     Ok(())
 }
 
-pub fn write(codes: &[u8], values: &[u16], buffer: &mut [u8]) -> Result<(), Refusal> {
-    let count = codes.len();
+pub fn write(groups: &[Group], values: &[u16], buffer: &mut [u8]) -> Result<(), Refusal> {
+    let count = groups.len();
     if count == 0 || count > 11 || values.len() != VALUES * count {
-        return refuse(3, 0);
+        return refuse(RefusalKind::WrongLength, 0);
     }
-    let mut least = 0;
-    for (i, &code) in codes.iter().enumerate() {
-        if code < least || code > 10 {
-            return refuse(4, HEAD + PROFILE * i);
-        }
-        least = code + 1;
+    if let Some(before) = groups.windows(2).position(|pair| pair[0] >= pair[1]) {
+        return refuse(RefusalKind::BadCode, HEAD + PROFILE * (before + 1));
     }
     let (values, _) = values.as_chunks::<VALUES>();
     for (i, values) in values.iter().enumerate() {
         if let Some(bad) = bad_value(values) {
-            return refuse(5, HEAD + PROFILE * i + 1 + 2 * bad);
+            return refuse(RefusalKind::BadValue, HEAD + PROFILE * i + 1 + 2 * bad);
         }
     }
     let needed = HEAD + PROFILE * count;
     let Some(buffer) = buffer.get_mut(..needed) else {
-        return refuse(12, needed);
+        return refuse(RefusalKind::ShortOutput, needed);
     };
     let (head, profiles) = buffer.split_at_mut(HEAD);
     head.copy_from_slice(&[b'S', b'L', b'P', 0, 1, count as u8]);
     let (profiles, _) = profiles.as_chunks_mut::<PROFILE>();
-    for ((profile, values), &code) in profiles.iter_mut().zip(values).zip(codes) {
-        profile[0] = code;
+    for ((profile, values), group) in profiles.iter_mut().zip(values).zip(groups) {
+        profile[0] = group.code();
         for (bytes, value) in profile[1..].as_chunks_mut::<2>().0.iter_mut().zip(values) {
             *bytes = value.to_be_bytes();
         }
@@ -141,7 +137,7 @@ fn check_list(holidays: &[u32]) -> Result<(), Refusal> {
     let mut before = 0;
     for (i, &date) in holidays.iter().enumerate() {
         if i == 400 || date <= before || !is_date(date) {
-            return refuse(9, i);
+            return refuse(RefusalKind::BadHoliday, i);
         }
         before = date;
     }
@@ -161,24 +157,24 @@ pub fn accept<'a, 'b>(
 ) -> Result<Accepted<'a, 'b>, Refusal> {
     let part = find(request.file, request.group)?;
     let Some(first) = day_of(request.first) else {
-        return refuse(7, 0);
+        return refuse(RefusalKind::BadDate, 0);
     };
     let Some(last) = day_of(request.last) else {
-        return refuse(7, 1);
+        return refuse(RefusalKind::BadDate, 1);
     };
     if first.number > last.number || last.number - first.number >= 1_461 {
-        return refuse(8, 0);
+        return refuse(RefusalKind::BadPeriod, 0);
     }
     check_list(request.holidays)?;
     if request.yearly > 1_000_000_000 {
-        return refuse(10, 0);
+        return refuse(RefusalKind::BadUse, 0);
     }
     if request.carry > 39_999 {
-        return refuse(11, 0);
+        return refuse(RefusalKind::BadCarry, 0);
     }
     let needed = values_of(first, last);
     let Some(figures) = out.get_mut(..needed) else {
-        return refuse(12, needed);
+        return refuse(RefusalKind::ShortOutput, needed);
     };
     Ok(Accepted {
         tables: part.as_chunks().0,
@@ -326,7 +322,7 @@ pub fn expand(request: &Request, out: &mut [u32]) -> Result<Expansion, Refusal> 
     for day in accepted.days {
         let table = &accepted.tables[day.table];
         match request.group {
-            0 => lay_household(table, day.t, &mut powers),
+            Group::H0 => lay_household(table, day.t, &mut powers),
             _ => lay(table, &mut powers),
         }
         room = match day.values {

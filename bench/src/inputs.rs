@@ -1,12 +1,12 @@
 //! What the calls are measured on: a full file of eleven profiles with made-up values, and a list of holidays.
-use slp::{file_length, Request, GROUP_VALUES};
+use slp::{file_length, Group, Request, GROUP_VALUES};
 
 use crate::random::Random;
 
-const PROFILES: usize = 11;
+const PROFILES: usize = Group::ALL.len();
 
 pub struct Inputs {
-    pub codes: Vec<u8>,
+    pub groups: Vec<Group>,
     pub values: Vec<u16>,
     pub file: Vec<u8>,
     pub holidays: Vec<u32>,
@@ -29,19 +29,19 @@ fn holidays() -> Vec<u32> {
 
 impl Inputs {
     pub fn new() -> Inputs {
-        let codes: Vec<u8> = (0..PROFILES as u8).collect();
+        let groups = Group::ALL.to_vec();
         let values = made_up_values();
         let mut file = vec![0; file_length(PROFILES)];
-        slp::write(&codes, &values, &mut file).expect("the values are in range");
+        slp::write(&groups, &values, &mut file).expect("the values are in range");
         Inputs {
-            codes,
+            groups,
             values,
             file,
             holidays: holidays(),
         }
     }
 
-    pub fn request(&self, group: u8, first: u32, last: u32) -> Request<'_> {
+    pub fn request(&self, group: Group, first: u32, last: u32) -> Request<'_> {
         Request {
             file: &self.file,
             group,

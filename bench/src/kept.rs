@@ -1,7 +1,7 @@
 //! The limit for groups without dynamisation, where a day's powers are its table's values: what a table adds up to is worked
 //! out once a call, and no division is left for each figure. No day is laid out as 96 powers, so this is not what
 //! document 01 asks for. A household's series is made as `fast` does.
-use slp::{Expansion, Refusal, Request};
+use slp::{Expansion, Group, Refusal, Request};
 
 use crate::fast::{self, Table};
 
@@ -45,7 +45,7 @@ impl Kept {
 }
 
 pub fn expand(request: &Request, out: &mut [u32]) -> Result<Expansion, Refusal> {
-    if request.group == 0 {
+    if request.group == Group::H0 {
         return fast::expand(request, out);
     }
     let accepted = fast::accept(request, out)?;

@@ -1,4 +1,6 @@
 //! The lines of the table: what is measured.
+use slp::Group;
+
 use crate::calls::{Calls, Work};
 use crate::inputs::Inputs;
 
@@ -11,7 +13,7 @@ pub struct Line {
     pub run: fn(&Calls, &Inputs, &mut Work),
 }
 
-fn expand(calls: &Calls, inputs: &Inputs, work: &mut Work, group: u8, first: u32, last: u32) {
+fn expand(calls: &Calls, inputs: &Inputs, work: &mut Work, group: Group, first: u32, last: u32) {
     let request = inputs.request(group, first, last);
     work.expanded = Some((calls.expand)(&request, &mut work.out));
 }
@@ -21,38 +23,38 @@ pub static LINES: [Line; 10] = [
         name: "h0-year",
         title: "expand H0, 366 days",
         units: 35_136,
-        run: |calls, inputs, work| expand(calls, inputs, work, 0, 20000101, 20001231),
+        run: |calls, inputs, work| expand(calls, inputs, work, Group::H0, 20000101, 20001231),
     },
     Line {
         name: "g0-year",
         title: "expand G0, 366 days",
         units: 35_136,
-        run: |calls, inputs, work| expand(calls, inputs, work, 1, 20000101, 20001231),
+        run: |calls, inputs, work| expand(calls, inputs, work, Group::G0, 20000101, 20001231),
     },
     Line {
         name: "h0-longest",
         title: "expand H0, 1,461 days",
         units: 140_256,
-        run: |calls, inputs, work| expand(calls, inputs, work, 0, 20000101, 20031231),
+        run: |calls, inputs, work| expand(calls, inputs, work, Group::H0, 20000101, 20031231),
     },
     Line {
         name: "g0-longest",
         title: "expand G0, 1,461 days",
         units: 140_256,
-        run: |calls, inputs, work| expand(calls, inputs, work, 1, 20000101, 20031231),
+        run: |calls, inputs, work| expand(calls, inputs, work, Group::G0, 20000101, 20031231),
     },
     Line {
         name: "h0-day",
         title: "expand H0, 1 day",
         units: 96,
-        run: |calls, inputs, work| expand(calls, inputs, work, 0, 20000614, 20000614),
+        run: |calls, inputs, work| expand(calls, inputs, work, Group::H0, 20000614, 20000614),
     },
     Line {
         name: "h0-large",
         title: "expand H0, 500,001 kWh",
         units: 35_136,
         run: |calls, inputs, work| {
-            let mut request = inputs.request(0, 20000101, 20001231);
+            let mut request = inputs.request(Group::H0, 20000101, 20001231);
             request.yearly = 500_001;
             work.expanded = Some((calls.expand)(&request, &mut work.out));
         },
@@ -62,7 +64,7 @@ pub static LINES: [Line; 10] = [
         title: "expand H0, 35,136 long",
         units: 35_136,
         run: |calls, inputs, work| {
-            let request = inputs.request(0, 20000101, 20001231);
+            let request = inputs.request(Group::H0, 20000101, 20001231);
             work.expanded = Some((calls.expand)(&request, &mut work.out[..35_136]));
         },
     },
@@ -70,14 +72,14 @@ pub static LINES: [Line; 10] = [
         name: "check",
         title: "check, 11 profiles",
         units: 9_504,
-        run: |calls, inputs, work| work.answered = Some((calls.check)(&inputs.file, 10)),
+        run: |calls, inputs, work| work.answered = Some((calls.check)(&inputs.file, Group::L2)),
     },
     Line {
         name: "read",
         title: "read, 11 profiles",
         units: 9_504,
         run: |calls, inputs, work| {
-            work.answered = Some((calls.read)(&inputs.file, 10, &mut work.table));
+            work.answered = Some((calls.read)(&inputs.file, Group::L2, &mut work.table));
         },
     },
     Line {
@@ -86,7 +88,7 @@ pub static LINES: [Line; 10] = [
         units: 9_504,
         run: |calls, inputs, work| {
             work.answered = Some((calls.write)(
-                &inputs.codes,
+                &inputs.groups,
                 &inputs.values,
                 &mut work.buffer,
             ));

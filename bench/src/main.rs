@@ -11,6 +11,7 @@ mod program;
 mod random;
 mod table;
 mod timing;
+mod tool;
 
 use std::hint::black_box;
 use std::process::ExitCode;
@@ -49,7 +50,8 @@ fn measure() -> Result<(), String> {
     table::ratios(&inputs);
     table::tables_kept(&inputs);
     table::growth(&inputs);
-    program::measure(&inputs)
+    program::measure(&inputs)?;
+    tool::measure(&inputs)
 }
 
 fn count(calls: &Calls, line: &Line, times: usize) {

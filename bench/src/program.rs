@@ -4,7 +4,7 @@ use std::path::{Path, PathBuf};
 use std::process::{Command, Stdio};
 use std::time::Instant;
 
-use slp::program::Input;
+use slp::{Group, Request};
 
 use crate::calls::Work;
 use crate::inputs::Inputs;
@@ -15,6 +15,19 @@ const DAYS: usize = 1_461;
 
 fn path() -> PathBuf {
     Path::new(env!("CARGO_MANIFEST_DIR")).join("../target/bin/slp")
+}
+
+/// The program's input for a request: group, dates, yearly use, how many holidays, the holidays, the file; numbers are big-endian.
+/// There is no carry in it: the program begins with 0.
+fn encoded(request: &Request) -> Vec<u8> {
+    let mut input = vec![request.group.code()];
+    for number in [request.first, request.last, request.yearly] {
+        input.extend(number.to_be_bytes());
+    }
+    input.extend((request.holidays.len() as u16).to_be_bytes());
+    input.extend(request.holidays.iter().flat_map(|date| date.to_be_bytes()));
+    input.extend(request.file);
+    input
 }
 
 /// What the program prints for an input.
@@ -51,16 +64,8 @@ pub fn measure(inputs: &Inputs) -> Result<(), String> {
             program.display()
         ));
     }
-    let request = inputs.request(0, 20000101, 20031231);
-    let input = Input {
-        group: request.group,
-        first: request.first,
-        last: request.last,
-        yearly: request.yearly,
-        holidays: inputs.holidays.clone(),
-        file: inputs.file.clone(),
-    };
-    let input = input.encode()?;
+    let request = inputs.request(Group::H0, 20000101, 20031231);
+    let input = encoded(&request);
     let mut work = Work::longest();
     let made = slp::expand(&request, &mut work.out).map_err(|refusal| refusal.to_string())?;
     let last = format!("total {DAYS} {} {} {}", made.count, made.total, made.carry);

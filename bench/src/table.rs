@@ -1,4 +1,6 @@
 //! The table of ratios, the lines with tables kept, and how the time grows with the days.
+use slp::Group;
+
 use crate::calls::{Calls, Work, FAST, KEPT, PLAIN, PROVED};
 use crate::inputs::Inputs;
 use crate::lines::{line, Line, LINES};
@@ -69,7 +71,7 @@ const PERIODS: [(u32, u32); 8] = [
 
 /// The proved call for longer and longer periods of H0.
 pub fn growth(inputs: &Inputs) {
-    let requests = PERIODS.map(|(_, last)| inputs.request(0, 20000101, last));
+    let requests = PERIODS.map(|(_, last)| inputs.request(Group::H0, 20000101, last));
     let runs = requests.map(|request| {
         move |work: &mut Work| work.expanded = Some(slp::expand(&request, &mut work.out))
     });

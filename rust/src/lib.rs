@@ -4,17 +4,17 @@
 //! "no". After a refusal, lent memory holds its old content; after an accepted call, the new entries and beyond them its old
 //! content.
 //!
-//! A group is a code: 0 is H0, 1 to 7 are G0 to G6, 8 to 10 are L0 to L2. A date is a number yyyymmdd. A list of holidays
-//! holds strictly rising dates, at most 400.
+//! A date is a number yyyymmdd. A list of holidays holds strictly rising dates, at most 400. A figure is a quarter hour's energy
+//! in Wh.
 //!
 //! ```
 //! let values = [1001; slp::GROUP_VALUES];
 //! let mut file = [0; slp::file_length(1)];
-//! slp::write(&[1], &values, &mut file)?;
+//! slp::write(&[slp::Group::G0], &values, &mut file)?;
 //!
 //! let request = slp::Request {
 //!     file: &file,
-//!     group: 1,
+//!     group: slp::Group::G0,
 //!     first: 20000325,
 //!     last: 20000326,
 //!     holidays: &[],
@@ -27,16 +27,12 @@
 //! # Ok::<(), slp::Refusal>(())
 //! ```
 
-pub mod arguments;
-pub mod csv;
-pub mod date;
-pub mod files;
-pub mod group;
-pub mod program;
+mod group;
+mod refusal;
 pub mod report;
-pub mod text;
 
-use std::fmt;
+pub use group::{Group, UnknownGroup};
+pub use refusal::{Refusal, RefusalKind};
 
 /// The values of one group: three seasons, three day types, 96 quarter hours.
 pub const GROUP_VALUES: usize = 864;
@@ -56,57 +52,8 @@ pub const fn file_length(count: usize) -> usize {
     6 + (1 + 2 * GROUP_VALUES) * count
 }
 
-/// The first question of document 01 that was answered "no".
-#[derive(Debug, Clone, Copy, PartialEq, Eq)]
-pub struct Refusal {
-    /// The question's number, 1 to 12.
-    pub number: u32,
-    /// The place that the question names: an offset, an index or a length; 0 where it names none.
-    pub place: usize,
-}
-
-impl Refusal {
-    /// What was found, in words.
-    ///
-    /// ```
-    /// let refusal = slp::check(b"", 1).unwrap_err();
-    /// assert_eq!(refusal.to_string(), "this is no profile file (question 1, place 0)");
-    /// ```
-    pub fn meaning(&self) -> &'static str {
-        match self.number {
-            1 => "this is no profile file",
-            2 => "the version of the profile file is not 1",
-            3 => "the count of profiles is not 1 to 11, or the length does not fit it",
-            4 => "a group code is above 10 or not above the one before",
-            5 => "a value is above 20,000",
-            6 => "the group is not in the file",
-            7 => "a date is not real or not from 1996 to 2099",
-            8 => "the period ends before it begins or has more than 1,461 days",
-            9 => "a holiday is no date from 1996 to 2099, not later than the one before, or the 401st",
-            10 => "the yearly use is above 1,000,000,000 kWh",
-            11 => "the carry is above 39,999",
-            12 => "the output is too short",
-            _ => "this is no question of the calls",
-        }
-    }
-}
-
-impl fmt::Display for Refusal {
-    fn fmt(&self, f: &mut fmt::Formatter) -> fmt::Result {
-        write!(
-            f,
-            "{} (question {}, place {})",
-            self.meaning(),
-            self.number,
-            self.place
-        )
-    }
-}
-
-impl std::error::Error for Refusal {}
-
 /// A season of the profiles.
-#[derive(Debug, Clone, Copy, PartialEq, Eq)]
+#[derive(Debug, Clone, Copy, PartialEq, Eq, Hash)]
 pub enum Season {
     /// 1 November to 20 March.
     Winter,
@@ -118,7 +65,7 @@ pub enum Season {
 
 /// A day type of the profiles, settled in document 01's order: a Sunday is a Sunday; 24 and 31 December count as Saturday; a
 /// listed holiday counts as Sunday; then Saturdays and weekdays.
-#[derive(Debug, Clone, Copy, PartialEq, Eq)]
+#[derive(Debug, Clone, Copy, PartialEq, Eq, Hash)]
 pub enum DayType {
     /// Monday to Friday, where the day is neither 24 or 31 December nor a listed holiday.
     Weekday,
@@ -129,7 +76,7 @@ pub enum DayType {
 }
 
 /// What document 01 says of a day.
-#[derive(Debug, Clone, Copy, PartialEq, Eq)]
+#[derive(Debug, Clone, Copy, PartialEq, Eq, Hash)]
 pub struct Day {
     /// 1 Monday to 7 Sunday.
     pub weekday: u32,
@@ -148,8 +95,8 @@ pub struct Day {
 pub struct Request<'a> {
     /// A profile file.
     pub file: &'a [u8],
-    /// The group's code.
-    pub group: u8,
+    /// One of its groups.
+    pub group: Group,
     /// The first date, yyyymmdd.
     pub first: u32,
     /// The last date, included; at most 1,461 days in all.
@@ -162,8 +109,23 @@ pub struct Request<'a> {
     pub carry: u32,
 }
 
+impl<'a> Request<'a> {
+    /// The same with the group's code, as [`report::expand`] takes it.
+    pub fn numbers(&self) -> report::Request<'a> {
+        report::Request {
+            file: self.file,
+            group: self.group.code(),
+            first: self.first,
+            last: self.last,
+            holidays: self.holidays,
+            yearly: self.yearly,
+            carry: self.carry,
+        }
+    }
+}
+
 /// What a series adds up to.
-#[derive(Debug, Clone, Copy, PartialEq, Eq)]
+#[derive(Debug, Clone, Copy, PartialEq, Eq, Hash)]
 pub struct Expansion {
     /// How many figures were written.
     pub count: usize,
@@ -174,19 +136,23 @@ pub struct Expansion {
 }
 
 fn verdict(number: u32, place: usize) -> Result<(), Refusal> {
-    match number {
-        0 => Ok(()),
-        _ => Err(Refusal { number, place }),
+    if number == 0 {
+        return Ok(());
+    }
+    match RefusalKind::from_number(number) {
+        Some(kind) => Err(Refusal { kind, place }),
+        None => unreachable!("no call is refused by {number}"),
     }
 }
 
 /// Whether `file` is a profile file that has `group`: questions 1 to 6.
 ///
 /// ```
-/// assert_eq!(slp::check(b"SLP", 1), Err(slp::Refusal { number: 1, place: 0 }));
+/// let refusal = slp::check(b"SLP", slp::Group::G0).unwrap_err();
+/// assert_eq!(refusal, slp::Refusal { kind: slp::RefusalKind::NoMark, place: 0 });
 /// ```
-pub fn check(file: &[u8], group: u8) -> Result<(), Refusal> {
-    let report = report::check(file, group);
+pub fn check(file: &[u8], group: Group) -> Result<(), Refusal> {
+    let report = report::check(file, group.code());
     verdict(report.number, report.place)
 }
 
@@ -194,13 +160,13 @@ pub fn check(file: &[u8], group: u8) -> Result<(), Refusal> {
 ///
 /// ```
 /// let mut file = [0; slp::file_length(1)];
-/// slp::write(&[1], &[258; slp::GROUP_VALUES], &mut file)?;
-/// assert_eq!(slp::locate(&file, 1), Some(&file[7..]));
-/// assert_eq!(slp::locate(&file, 2), None);
+/// slp::write(&[slp::Group::G0], &[258; slp::GROUP_VALUES], &mut file)?;
+/// assert_eq!(slp::locate(&file, slp::Group::G0), Some(&file[7..]));
+/// assert_eq!(slp::locate(&file, slp::Group::G1), None);
 /// # Ok::<(), slp::Refusal>(())
 /// ```
-pub fn locate(file: &[u8], group: u8) -> Option<&[u8]> {
-    let part = report::locate(file, group);
+pub fn locate(file: &[u8], group: Group) -> Option<&[u8]> {
+    let part = report::locate(file, group.code());
     match part.length {
         0 => None,
         length => Some(&file[part.offset..part.offset + length]),
@@ -211,29 +177,31 @@ pub fn locate(file: &[u8], group: u8) -> Option<&[u8]> {
 ///
 /// ```
 /// let mut file = [0; slp::file_length(1)];
-/// slp::write(&[1], &[258; slp::GROUP_VALUES], &mut file)?;
+/// slp::write(&[slp::Group::G0], &[258; slp::GROUP_VALUES], &mut file)?;
 /// let mut table = [0; slp::GROUP_VALUES];
-/// slp::read(&file, 1, &mut table)?;
+/// slp::read(&file, slp::Group::G0, &mut table)?;
 /// assert_eq!(table, [258; slp::GROUP_VALUES]);
-/// assert_eq!(slp::read(&file, 1, &mut table[1..]), Err(slp::Refusal { number: 12, place: 864 }));
+/// let refusal = slp::read(&file, slp::Group::G0, &mut table[1..]).unwrap_err();
+/// assert_eq!(refusal, slp::Refusal { kind: slp::RefusalKind::ShortOutput, place: 864 });
 /// # Ok::<(), slp::Refusal>(())
 /// ```
-pub fn read(file: &[u8], group: u8, table: &mut [u16]) -> Result<(), Refusal> {
-    let report = report::read(file, group, table);
+pub fn read(file: &[u8], group: Group, table: &mut [u16]) -> Result<(), Refusal> {
+    let report = report::read(file, group.code(), table);
     verdict(report.number, report.place)
 }
 
-/// Writes the profile file of the groups `codes`, with 864 of `values` for each in that order, into the first
-/// [`file_length`] bytes of `buffer`: questions 3, 4, 5 and 12.
+/// Writes the profile file of `groups`, with 864 of `values` for each in that order, into the first [`file_length`] bytes of
+/// `buffer`: questions 3, 4, 5 and 12.
 ///
 /// ```
 /// let mut file = [0; slp::file_length(2)];
-/// slp::write(&[1, 8], &[258; 2 * slp::GROUP_VALUES], &mut file)?;
+/// slp::write(&[slp::Group::G0, slp::Group::L0], &[258; 2 * slp::GROUP_VALUES], &mut file)?;
 /// assert_eq!(file[..9], *b"SLP\0\x01\x02\x01\x01\x02");
 /// # Ok::<(), slp::Refusal>(())
 /// ```
-pub fn write(codes: &[u8], values: &[u16], buffer: &mut [u8]) -> Result<(), Refusal> {
-    let report = report::write(codes, values, buffer);
+pub fn write(groups: &[Group], values: &[u16], buffer: &mut [u8]) -> Result<(), Refusal> {
+    let codes: Vec<u8> = groups.iter().map(|group| group.code()).collect();
+    let report = report::write(&codes, values, buffer);
     verdict(report.number, report.place)
 }
 
@@ -241,13 +209,14 @@ pub fn write(codes: &[u8], values: &[u16], buffer: &mut [u8]) -> Result<(), Refu
 ///
 /// ```
 /// let mut file = [0; slp::file_length(2)];
-/// slp::write(&[1, 8], &[258; 2 * slp::GROUP_VALUES], &mut file)?;
-/// assert_eq!(slp::compare(&file, 1, 8), Ok(true));
-/// assert_eq!(slp::compare(&file, 1, 9), Err(slp::Refusal { number: 6, place: 1 }));
+/// slp::write(&[slp::Group::G0, slp::Group::L0], &[258; 2 * slp::GROUP_VALUES], &mut file)?;
+/// assert!(slp::compare(&file, slp::Group::G0, slp::Group::L0)?);
+/// let refusal = slp::compare(&file, slp::Group::G0, slp::Group::L1).unwrap_err();
+/// assert_eq!(refusal, slp::Refusal { kind: slp::RefusalKind::NoGroup, place: 1 });
 /// # Ok::<(), slp::Refusal>(())
 /// ```
-pub fn compare(file: &[u8], first: u8, second: u8) -> Result<bool, Refusal> {
-    let report = report::compare(file, first, second);
+pub fn compare(file: &[u8], first: Group, second: Group) -> Result<bool, Refusal> {
+    let report = report::compare(file, first.code(), second.code());
     verdict(report.number, report.place)?;
     Ok(report.alike == 1)
 }
@@ -297,9 +266,15 @@ fn day_type(digit: u32) -> DayType {
 ///
 /// ```
 /// let mut file = [0; slp::file_length(1)];
-/// slp::write(&[1], &[1001; slp::GROUP_VALUES], &mut file)?;
+/// slp::write(&[slp::Group::G0], &[1001; slp::GROUP_VALUES], &mut file)?;
 /// let day = slp::Request {
-///     file: &file, group: 1, first: 20000325, last: 20000325, holidays: &[], yearly: 1000, carry: 0,
+///     file: &file,
+///     group: slp::Group::G0,
+///     first: 20000325,
+///     last: 20000325,
+///     holidays: &[],
+///     yearly: 1000,
+///     carry: 0,
 /// };
 /// let mut out = [0; 188];
 /// let one = slp::expand(&day, &mut out)?;
@@ -313,7 +288,7 @@ fn day_type(digit: u32) -> DayType {
 /// # Ok::<(), slp::Refusal>(())
 /// ```
 pub fn expand(request: &Request, out: &mut [u32]) -> Result<Expansion, Refusal> {
-    let report = report::expand(request, out);
+    let report = report::expand(&request.numbers(), out);
     verdict(report.number, report.place)?;
     Ok(Expansion {
         count: report.count,
@@ -329,26 +304,12 @@ pub fn expand(request: &Request, out: &mut [u32]) -> Result<Expansion, Refusal> 
 /// let mut page = [0; slp::PAGE_LENGTH];
 /// let length = slp::respond(b"", &mut page)?;
 /// assert_eq!(page[..length], *b"refused 13 0\n");
-/// assert_eq!(slp::respond(b"", &mut page[..12]), Err(slp::Refusal { number: 12, place: 13 }));
+/// let refusal = slp::respond(b"", &mut page[..12]).unwrap_err();
+/// assert_eq!(refusal, slp::Refusal { kind: slp::RefusalKind::ShortOutput, place: 13 });
 /// # Ok::<(), slp::Refusal>(())
 /// ```
 pub fn respond(input: &[u8], page: &mut [u8]) -> Result<usize, Refusal> {
     let report = report::respond(input, page);
     verdict(report.number, report.place)?;
     Ok(report.length)
-}
-
-#[cfg(test)]
-mod tests {
-    use super::*;
-    use std::collections::BTreeSet;
-
-    #[test]
-    fn every_question_has_words_of_its_own() {
-        let words = |number| Refusal { number, place: 0 }.meaning();
-        let of_questions: BTreeSet<_> = (1..=12).map(words).collect();
-        assert_eq!(of_questions.len(), 12);
-        assert!(!of_questions.contains(words(0)));
-        assert_eq!(words(13), words(0));
-    }
 }

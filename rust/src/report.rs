@@ -1,5 +1,5 @@
-//! The calls as the library answers them: numbers, with zeros where a call is refused. The functions of the crate's root
-//! answer the same as `Result`s. The structs are those of `include/slp.h`.
+//! The calls as C has them: a group is any byte, and an answer is numbers, with zeros where the call is refused. The functions of
+//! the crate's root take a [`Group`](crate::Group) and answer a `Result`. The structs are those of `include/slp.h`.
 #![allow(unsafe_code)]
 
 /// Passed (number 0, place 0) or refused.
@@ -80,6 +80,25 @@ pub struct ResponseReport {
     pub place: usize,
     /// How many bytes were written.
     pub length: usize,
+}
+
+/// What expanding is given beside its output.
+#[derive(Debug, Clone, Copy, PartialEq, Eq)]
+pub struct Request<'a> {
+    /// A profile file.
+    pub file: &'a [u8],
+    /// The group's code.
+    pub group: u8,
+    /// The first date, yyyymmdd.
+    pub first: u32,
+    /// The last date, included.
+    pub last: u32,
+    /// The holidays.
+    pub holidays: &'a [u32],
+    /// The yearly use in kWh.
+    pub yearly: u32,
+    /// The carry in 1/40,000 Wh.
+    pub carry: u32,
 }
 
 extern "C" {
@@ -174,7 +193,7 @@ pub fn day(date: u32, holidays: &[u32]) -> DayReport {
 }
 
 /// `slp_expand`.
-pub fn expand(request: &crate::Request, out: &mut [u32]) -> ExpansionReport {
+pub fn expand(request: &Request, out: &mut [u32]) -> ExpansionReport {
     unsafe {
         slp_expand(
             request.file.as_ptr(),

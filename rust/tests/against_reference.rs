@@ -10,7 +10,8 @@ mod tally;
 use std::collections::BTreeSet;
 
 use draw::Draw;
-use slp::Request;
+use slp::report::Request;
+use slp::Group;
 use tally::Tally;
 
 const INPUTS: u64 = 30_000;
@@ -190,10 +191,10 @@ fn every_power_on_every_day() {
         let column = (start..start + 96).map(|p: u16| p.min(20_000));
         let values: Vec<u16> = column.cycle().take(864).collect();
         let mut file = [0; slp::file_length(1)];
-        slp::write(&[0], &values, &mut file).unwrap();
+        slp::write(&[Group::H0], &values, &mut file).unwrap();
         let request = Request {
             file: &file,
-            group: 0,
+            group: Group::H0.code(),
             first: 20_000_101,
             last: 20_001_231,
             holidays: &[],

@@ -15,7 +15,7 @@ use agreed::{reference_request, refused};
 use draw::Draw;
 use reference::energy::{keeps_to_bound, quarters, Quarter, UNITS};
 use reference::Expansion;
-use slp::Request;
+use slp::report::Request;
 
 /// H0, G0 and L2.
 const GROUPS: [u8; 3] = [0, 1, 10];

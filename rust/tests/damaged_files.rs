@@ -9,7 +9,7 @@ mod profile_file;
 use agreed::refused;
 use draw::Draw;
 use reference::Refusal;
-use slp::Request;
+use slp::report::Request;
 
 const CODES: [u8; 2] = [0, 4];
 const FIRST_CODE: usize = 6;

@@ -10,7 +10,7 @@ mod profile_file;
 use agreed::refused;
 use reference::dynamisation::{factor, power};
 use reference::{Expansion, Refusal};
-use slp::Request;
+use slp::report::Request;
 
 /// H0 and G0, with every value at the limit.
 fn file() -> Vec<u8> {
