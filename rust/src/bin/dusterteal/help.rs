@@ -1,0 +1,188 @@
+//! What the tool says of itself.
+
+/// What it says first.
+pub const OVERVIEW: &str = "dusterteal: quarter-hour series from the VDEW load profiles
+
+    dusterteal SUBCOMMAND ARGUMENTS OPTIONS
+
+  series   the figures of a period as CSV
+  sums     counts and energy of its days, months, quarters or years as CSV
+  days     a line for each day, as the program slp prints it
+  explain  how one figure comes about
+  day      the calendar of a period: t, weekday, season, day type and why
+  check    whether a profile file or a table is accepted, and whether it is likely to be right
+  compare  whether two groups or two files have the same values, or which cells differ
+
+`dusterteal SUBCOMMAND --help` says what each takes; `dusterteal --help all` names three more, for binary files.
+`dusterteal --version` prints the version.
+
+For example:
+    dusterteal series G0 2026-Q2 3500 --since 2026-01-01 --profiles G0.csv --holidays holidays.txt -o series.csv
+
+Exit status: 0 done, 1 refused or not accepted, 2 not understood, 3 could not read or write.
+";
+
+/// The subcommands that the first help leaves out.
+pub const MORE: &str = "
+Three more handle binary files:
+  pack     a profile file of CSV tables
+  unpack   a CSV table of a profile file's group
+  request  the binary request that the program slp reads
+";
+
+const WORDS: &str = "
+  GROUP   H0 (households), G0 to G6 (trade), L0 to L2 (farms), in capitals or not
+  PERIOD  2026, 2026-Q2, 2026-03, 2026-03-26 or 2026-01-15..2026-02-14; also 26.03.2026; at most 1461 days
+  KWH     the yearly use, a whole number from 0 to 1000000000
+";
+
+const WORDS_OF_EXPLAIN: &str = "
+  GROUP   H0 (households), G0 to G6 (trade), L0 to L2 (farms), in capitals or not
+  DATE    2000-10-29 or 29.10.2000
+  TIME    the end of the quarter hour, 00:15 to 24:00; in October's doubled hour with its offset, 02:15+01:00
+  KWH     the yearly use, a whole number from 0 to 1000000000
+";
+
+const SOURCES: &str = "
+  --profiles FILE..     a profile file, or CSV tables, one for each group
+  --holidays FILE|none  a file with one date a line, with or without a name behind it; none where there are none
+";
+
+const BEGINNING: &str = "  --since DATE          begin the run on DATE and write PERIOD alone, so that parts join to the whole
+  --carry N             begin it with this carry, 0 to 39999, in 1/40000 Wh
+                        Without either the run begins on the period's first day with carry 0.
+";
+
+const FILES: &str = "  -o FILE               write FILE and not standard output; - is standard output (and standard input where a file is read)
+";
+
+const KEPT: &str = "  --carry-out FILE      write the last carry to FILE
+  --about FILE          write how the series was made: arguments, version, the SHA-256 of tool and files, count, total, carry
+";
+
+const DECIMALS: &str = "  --decimal comma|point how decimals are written; comma without it
+";
+
+/// What a subcommand takes.
+pub fn of(name: &str) -> Option<String> {
+    match name {
+        "series" => Some(series()),
+        "sums" => Some(sums()),
+        "days" => Some(days()),
+        "explain" => Some(explain()),
+        "day" => Some(day()),
+        "check" => Some(CHECK.to_owned()),
+        "compare" => Some(format!("{COMPARE}{DECIMALS}{FILES}")),
+        "pack" => Some(format!("{PACK}{FILES}")),
+        "unpack" => Some(format!("{UNPACK}{FILES}")),
+        "request" => Some(request()),
+        _ => None,
+    }
+}
+
+/// The help of a subcommand for a run of GROUP, PERIOD and KWH.
+fn run(usage: &str, does: &str, options: &[&str]) -> String {
+    run_of(usage, does, WORDS, options)
+}
+
+fn run_of(usage: &str, does: &str, words: &str, options: &[&str]) -> String {
+    let usage = format!("dusterteal {usage} --profiles FILE.. --holidays FILE|none");
+    format!("{usage}\n\n{does}\n{words}{SOURCES}{}", options.concat())
+}
+
+fn series() -> String {
+    let does = "Writes the figures of a period as CSV, a line for each quarter hour: date;until;offset;Wh. `until` is its end, 00:15 to
+24:00; `offset` tells October's two hours from 2 to 3 apart: the first has +02:00, the second +01:00.";
+    let unit = "  --unit Wh|kWh|kW      what figures are written in; Wh without it
+";
+    let wide = "  --wide                a line for each day, with 100 columns of quarter hours; what a day does not have is empty
+";
+    run(
+        "series GROUP PERIOD KWH",
+        does,
+        &[BEGINNING, unit, DECIMALS, wide, KEPT, FILES],
+    )
+}
+
+fn sums() -> String {
+    let does =
+        "Writes counts and energy as CSV: period;days;values;Wh, and a last line with the total.";
+    let by = "  --by day|month|quarter|year
+                        what a line adds up; month without it
+";
+    let unit = "  --unit Wh|kWh         what energy is written in; Wh without it
+";
+    run(
+        "sums GROUP PERIOD KWH",
+        does,
+        &[by, BEGINNING, unit, DECIMALS, KEPT, FILES],
+    )
+}
+
+fn days() -> String {
+    let does = "Writes a line for each day (date, season and day type, quarter hours, Wh) and a last line with days, quarter hours, Wh and
+carry, as the program slp prints it: the run begins on the period's first day with carry 0.";
+    run("days GROUP PERIOD KWH", does, &[FILES])
+}
+
+fn explain() -> String {
+    let does = "Says how the figure of one quarter hour comes about, line by line with its place in the papers: source document 000 and
+document 01. DATE, TIME and offset are those of a line of the series.";
+    let beginning = "  --since DATE          the day on which the run begins: the first of the series that has the figure
+  --carry N             the carry that it begins with, 0 to 39999, in 1/40000 Wh
+                        Without either the run begins on DATE with carry 0, which a figure of a longer series need not have.
+";
+    run_of(
+        "explain GROUP DATE TIME KWH",
+        does,
+        WORDS_OF_EXPLAIN,
+        &[beginning, DECIMALS, FILES],
+    )
+}
+
+fn day() -> String {
+    format!(
+        "dusterteal day PERIOD [--holidays FILE|none]
+
+Writes the calendar of a period as CSV: t;date;weekday;season;day type;why;values. PERIOD is as in `series`, of any length.
+
+  --holidays FILE|none  a file with one date a line, with or without a name behind it; none without it
+{FILES}"
+    )
+}
+
+fn request() -> String {
+    run(
+        "request GROUP PERIOD KWH",
+        "Makes the binary request that the program slp reads.",
+        &[FILES],
+    )
+}
+
+const CHECK: &str = "dusterteal check FILE [GROUP]
+
+Says whether a profile file or a CSV table is accepted, with its groups, or what is wrong with it and where. Then, for each group or
+the one that is named, its energy in the year 2000 with the holidays of source document 000, for 1000 kWh a year. It warns on
+standard error where that is more than 1.5 % off, where values look like kW or Wh, where two day tables are equal, and where a trade
+profile's Sunday lies above its weekday (but for G6, trade at the weekend). A warning is no refusal.
+";
+
+const COMPARE: &str = "dusterteal compare FILE GROUP GROUP
+dusterteal compare OLD NEW [GROUP]
+
+Says for two groups of a file, or for each group of two files, or for the one that is named, that they are alike, or which of their 864
+values differ: day;until and the watts of both. Files are profile files or CSV tables. The exit status is 0 in either case.
+
+";
+
+const PACK: &str = "dusterteal pack TABLE.csv.. -o FILE.slp
+
+Makes a profile file of CSV tables, one for each group.
+
+";
+
+const UNPACK: &str = "dusterteal unpack FILE.slp GROUP [-o TABLE.csv]
+
+Makes a CSV table of a group of a profile file.
+
+";

@@ -1,0 +1,296 @@
+//! A run: what a series is made from, and the series.
+use std::ffi::OsString;
+
+use slp::{Expansion, Group, Refusal, RefusalKind, Request};
+
+use crate::arguments::{Arguments, Choice, Grammar};
+use crate::date::{self, Date, Period, PERIOD_FORMS};
+use crate::failure::Failure;
+use crate::holidays::Holidays;
+use crate::plausibility;
+use crate::profiles::Profiles;
+use crate::text::quoted;
+
+/// The options that say what a run is made from.
+pub const PROFILES: Choice = Choice::with_values("--profiles");
+/// Which dates are holidays.
+pub const HOLIDAYS: Choice = Choice::with_value("--holidays");
+/// Where the run begins.
+pub const SINCE: Choice = Choice::with_value("--since");
+/// The carry that it begins with.
+pub const CARRY: Choice = Choice::with_value("--carry");
+/// Where the output goes.
+pub const OUTPUT: Choice = Choice::with_value("-o");
+
+/// What a series is made from.
+#[derive(Debug)]
+pub struct Run {
+    /// The group.
+    pub group: Group,
+    /// The days that are asked for.
+    pub period: Period,
+    /// The day on which the run begins.
+    pub since: Date,
+    /// The yearly use in kWh.
+    pub yearly: u32,
+    /// The carry that the run begins with.
+    pub carry: u32,
+    /// The holidays.
+    pub holidays: Holidays,
+    /// The profiles.
+    pub profiles: Profiles,
+    said: Said,
+}
+
+/// The arguments that refusals speak of, as they were given.
+#[derive(Debug)]
+struct Said {
+    period: String,
+    yearly: String,
+    carry: String,
+}
+
+/// The figures of a run's period.
+#[derive(Debug)]
+pub struct Series {
+    /// The figures, in Wh.
+    pub figures: Vec<u32>,
+    /// What they add up to.
+    pub made: Expansion,
+    /// The carry that the period begins with.
+    pub carry_before: u32,
+}
+
+/// What a subcommand's words say, beside its options.
+pub struct Words {
+    /// The group.
+    pub group: Group,
+    /// The period.
+    pub period: Period,
+    /// What refusals call it.
+    pub period_said: String,
+    /// The yearly use.
+    pub yearly: String,
+}
+
+impl Run {
+    /// The run that the words GROUP PERIOD KWH and the options ask for.
+    pub fn of_words(grammar: &Grammar, arguments: &Arguments) -> Result<Run, Failure> {
+        let word = |index| arguments.word(index).unwrap_or_default();
+        let words = Words {
+            group: group(grammar, &word(0))?,
+            period: period(grammar, &word(1))?,
+            period_said: format!("PERIOD {}", word(1)),
+            yearly: word(2),
+        };
+        Run::of(grammar, words, arguments)
+    }
+
+    /// The run that words and options ask for.
+    pub fn of(grammar: &Grammar, words: Words, arguments: &Arguments) -> Result<Run, Failure> {
+        let period = words.period;
+        let yearly = number(grammar, "KWH", &words.yearly, "0 to 1000000000")?;
+        let said_carry = arguments.text("--carry").unwrap_or_else(|| "0".to_owned());
+        let carry = number(grammar, "--carry", &said_carry, "0 to 39999")?;
+        let since = match arguments.text("--since") {
+            Some(text) => date(grammar, "--since", &text)?,
+            None => period.first,
+        };
+        let profiles = arguments.values("--profiles");
+        if profiles.is_empty() {
+            return Err(grammar.fault("--profiles is missing: name a profile file or CSV tables"));
+        }
+        let Some(holidays) = arguments.value("--holidays") else {
+            return Err(grammar
+                .fault("--holidays is missing: name a file with one date a line, or say none"));
+        };
+        if profiles.iter().filter(|path| *path == "-").count() + usize::from(holidays == "-") > 1 {
+            return Err(grammar.fault("standard input can be read only once"));
+        }
+        let run = Run {
+            group: words.group,
+            period,
+            since,
+            yearly,
+            carry,
+            holidays: Holidays::load(holidays)?,
+            profiles: Profiles::load(profiles)?,
+            said: Said {
+                period: words.period_said,
+                yearly: words.yearly,
+                carry: said_carry,
+            },
+        };
+        run.expect_accepted()?;
+        run.warn();
+        Ok(run)
+    }
+
+    fn warn(&self) {
+        let period = Period {
+            first: self.since,
+            ..self.period
+        };
+        self.holidays.warn_of_empty_years(period);
+        plausibility::warn_of_energy(&self.profiles, self.group);
+    }
+
+    /// Expanding's request for some days of the run.
+    pub fn request(&self, days: Period, carry: u32) -> Request<'_> {
+        Request {
+            file: &self.profiles.file,
+            group: self.group,
+            first: days.first.0,
+            last: days.last.0,
+            holidays: self.holidays.dates(),
+            yearly: self.yearly,
+            carry,
+        }
+    }
+
+    /// Asks expanding's questions 1 to 11 of the period, then where the run begins.
+    fn expect_accepted(&self) -> Result<(), Failure> {
+        match slp::expand(&self.request(self.period, self.carry), &mut []) {
+            Err(refusal) if refusal.kind != RefusalKind::ShortOutput => {
+                return Err(self.refused(refusal))
+            }
+            _ => {}
+        }
+        if !self.since.is_real() {
+            let why = self.since.why_not_real();
+            return Err(Failure::Refused(format!(
+                "--since: {why} (question 7, place 0)"
+            )));
+        }
+        if self.since > self.period.first {
+            let (since, first) = (self.since, self.period.first);
+            return Err(Failure::Refused(format!(
+                "--since {since} lies after the first day that is asked for, {first}"
+            )));
+        }
+        Ok(())
+    }
+
+    /// The failure that a refusal by expanding's questions makes, in the terms of the arguments.
+    fn refused(&self, refusal: Refusal) -> Failure {
+        let period = &self.said.period;
+        let what = match refusal.kind {
+            RefusalKind::BadDate => {
+                let dates = [self.period.first, self.period.last];
+                format!("{period}: {}", dates[refusal.place].why_not_real())
+            }
+            RefusalKind::BadPeriod => format!("{period}: {}", period_fault(self.period)),
+            RefusalKind::BadHoliday => self.holidays.fault_at(refusal.place),
+            RefusalKind::BadUse => format!(
+                "KWH {}: a yearly use is 0 to 1000000000 kWh",
+                self.said.yearly
+            ),
+            RefusalKind::BadCarry => format!("--carry {}: a carry is 0 to 39999", self.said.carry),
+            _ => return self.profiles.refused(refusal, self.group),
+        };
+        let (number, place) = (refusal.kind.number(), refusal.place);
+        Failure::Refused(format!("{what} (question {number}, place {place})"))
+    }
+
+    /// The figures of some days, given a carry.
+    fn expand(&self, days: Period, carry: u32, out: &mut [u32]) -> Result<Expansion, Failure> {
+        slp::expand(&self.request(days, carry), out).map_err(|refusal| self.refused(refusal))
+    }
+
+    /// The carry with which a day begins, when the run has gone through the days before it, year by year.
+    pub fn carry_before(&self, day: Date) -> Result<u32, Failure> {
+        let mut out = vec![0; 366 * 100];
+        let mut carry = self.carry;
+        let mut first = self.since;
+        while first < day {
+            let end = Date::new(first.year(), 12, 31);
+            let last = if day.year() == first.year() {
+                day.previous()
+            } else {
+                end
+            };
+            carry = self.expand(Period { first, last }, carry, &mut out)?.carry;
+            first = last.next();
+        }
+        Ok(carry)
+    }
+
+    /// The figures of the period.
+    pub fn series(&self) -> Result<Series, Failure> {
+        let carry_before = self.carry_before(self.period.first)?;
+        let days = self.period.first.days_to(self.period.last) as usize;
+        let mut figures = vec![0; 100 * days];
+        let made = self.expand(self.period, carry_before, &mut figures)?;
+        figures.truncate(made.count);
+        Ok(Series {
+            figures,
+            made,
+            carry_before,
+        })
+    }
+
+    /// The paths of the files that it was read from.
+    pub fn read(&self) -> Vec<OsString> {
+        let sources = self.profiles.sources.iter().chain(&self.holidays.source);
+        sources.map(|source| source.path.clone()).collect()
+    }
+
+    /// What the day enquiry says of a day of the run.
+    pub fn day(&self, date: Date) -> Result<slp::Day, Failure> {
+        slp::day(date.0, self.holidays.dates()).map_err(|refusal| self.refused(refusal))
+    }
+}
+
+/// Why question 8 refuses a period of two real dates.
+pub fn period_fault(period: Period) -> String {
+    let Period { first, last } = period;
+    if first > last {
+        return format!("{first} to {last} ends before it begins");
+    }
+    format!(
+        "{first} to {last} has {} days; a period has at most 1461",
+        first.days_to(last)
+    )
+}
+
+/// The group of a word.
+pub fn group(grammar: &Grammar, text: &str) -> Result<Group, Failure> {
+    let later = match text.strip_suffix("25") {
+        Some(letter) if letter.len() == 1 => {
+            "; the profiles of 2025 have tables by month, which do not fit yet"
+        }
+        _ => "",
+    };
+    text.parse().map_err(|unknown| {
+        grammar.fault(&format!("{} is no group: {unknown}{later}", quoted(text)))
+    })
+}
+
+/// The period of a word.
+pub fn period(grammar: &Grammar, text: &str) -> Result<Period, Failure> {
+    Period::parse(text)
+        .ok_or_else(|| grammar.fault(&format!("{} is no period: {PERIOD_FORMS}", quoted(text))))
+}
+
+/// The date of a word or an option.
+pub fn date(grammar: &Grammar, name: &str, text: &str) -> Result<Date, Failure> {
+    Date::parse(text).ok_or_else(|| {
+        grammar.fault(&format!(
+            "{name}: {} is no date: {}",
+            quoted(text),
+            date::FORMS
+        ))
+    })
+}
+
+/// The number of a word or an option. One too large for 32 bits becomes the largest, which the questions refuse.
+fn number(grammar: &Grammar, name: &str, text: &str, range: &str) -> Result<u32, Failure> {
+    if text.is_empty() || !text.bytes().all(|byte| byte.is_ascii_digit()) {
+        let what = format!(
+            "{name}: {} is no whole number, {range}, without separators",
+            quoted(text)
+        );
+        return Err(grammar.fault(&what));
+    }
+    Ok(text.parse().unwrap_or(u32::MAX))
+}
