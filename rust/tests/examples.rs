@@ -1,22 +1,296 @@
-//! The files of `examples` are what the tools and the library make of each other.
+//! The commands and files of `examples`: the README's first command, run whole, what sets it up, and files that the tool and the
+//! library make of each other.
 mod repository;
+#[allow(dead_code)] // the tests of the tool use the rest
+#[path = "dusterteal/tool.rs"]
 mod tool;
 
 use std::fs;
+use std::os::unix::fs::PermissionsExt;
+use std::path::Path;
+use std::process::{Command, Output};
 
-use slp::csv;
-use tool::{example, scratch, slp_csv, slp_request, text, written};
+use tool::{folder, text, written};
 
-fn made_up() -> Vec<u8> {
-    fs::read(example("made_up.slp")).unwrap()
+fn stored(name: &str) -> Vec<u8> {
+    fs::read(repository::path(name)).unwrap()
 }
 
-fn table() -> String {
-    fs::read_to_string(example("made_up.csv")).unwrap()
+fn stored_text(name: &str) -> String {
+    String::from_utf8(stored(name)).unwrap()
+}
+
+/// Runs a command of `examples` that has to succeed.
+fn run(name: &str) -> Output {
+    let output = Command::new(repository::path("examples").join(name))
+        .output()
+        .expect("it runs");
+    assert!(
+        output.status.success(),
+        "{}",
+        String::from_utf8_lossy(&output.stderr)
+    );
+    output
 }
 
 #[test]
-fn the_values_are_those_of_the_formula() {
+fn the_listing_is_made_from_readable_input() {
+    let output = run("listing");
+    assert!(stored("target/listing/request") == stored("crates/slp/stdin"));
+    assert_eq!(output.stdout, stored("crates/slp/stdout"));
+}
+
+#[test]
+fn the_exercise_shows_92_figures_and_how_far_their_sum_is_off() {
+    let text = String::from_utf8(run("exercise").stdout).unwrap();
+    let profiles: Vec<&str> = text.split("\n\n").collect();
+    let [title, made_up, flat] = profiles[..] else {
+        panic!("{text}");
+    };
+    assert!(
+        title.contains("26 March 2000") && title.contains("92 quarter hours"),
+        "{title}"
+    );
+    for (profile, name, sum) in [(made_up, "made_up", 2108), (flat, "constant", 2302)] {
+        assert_eq!(figures(profile), figures_of_series(name), "{name}");
+        assert_eq!(
+            figures(profile).iter().map(|(_, wh)| wh).sum::<u32>(),
+            sum,
+            "{name}"
+        );
+        assert!(profile.contains("92 figures"), "{profile}");
+        assert!(
+            profile.contains(&format!("Their sum is {sum} Wh.")),
+            "{profile}"
+        );
+        assert!(profile.contains("less than 1 Wh."), "{profile}");
+    }
+    assert!(
+        made_up.contains("exact energy is 2108.500 Wh: 0.500 Wh off"),
+        "{made_up}"
+    );
+    assert!(made_up.contains("a wrong hour shows"), "{made_up}");
+    assert!(
+        flat.contains("exact energy is 2302.300 Wh: 0.300 Wh off"),
+        "{flat}"
+    );
+    assert!(
+        flat.contains("a wrong hour dropped would not show"),
+        "{flat}"
+    );
+}
+
+/// The labels and figures that the exercise prints: lines of four times, each with its figure behind it.
+fn figures(profile: &str) -> Vec<(String, u32)> {
+    let lines = profile
+        .lines()
+        .map(|line| line.split_whitespace().collect::<Vec<_>>());
+    let of_figures = lines.filter(|words| words.len() == 8 && words[0].contains(':'));
+    let pairs = of_figures.flat_map(|words| {
+        words
+            .chunks(2)
+            .map(|pair| [pair[0], pair[1]])
+            .collect::<Vec<_>>()
+    });
+    pairs
+        .map(|[time, figure]| (time.to_owned(), figure.parse().unwrap()))
+        .collect()
+}
+
+/// The same of the series that it leaves in `target`.
+fn figures_of_series(name: &str) -> Vec<(String, u32)> {
+    let text = stored_text(&format!("target/exercise/{name}.csv"));
+    let fields = |line: &str| line.split(';').map(str::to_owned).collect::<Vec<_>>();
+    let figures: Vec<_> = text
+        .lines()
+        .skip(1)
+        .map(fields)
+        .map(|f| (f[1].clone(), f[3].parse().unwrap()))
+        .collect();
+    assert_eq!(figures.len(), 92);
+    figures
+}
+
+// What sets the examples up, tried in a repository of its own with an `rt` and a `cargo` that only note that they were called.
+
+struct Repository {
+    root: std::path::PathBuf,
+}
+
+impl Repository {
+    fn new(name: &str) -> Repository {
+        let root = folder(name);
+        for folder in ["examples", "crates", "commands"] {
+            fs::create_dir(root.join(folder)).unwrap();
+        }
+        fs::write(root.join("crates.txt"), "").unwrap();
+        fs::copy(
+            repository::path("examples/set_up"),
+            root.join("examples/set_up"),
+        )
+        .unwrap();
+        let repository = Repository { root };
+        repository.command("rt", "mkdir -p target/bin target/staticlib; touch target/bin/slp target/staticlib/libexports.a");
+        repository.command(
+            "cargo",
+            "mkdir -p rust/target/release; touch rust/target/release/dusterteal",
+        );
+        repository
+    }
+
+    fn command(&self, name: &str, does: &str) {
+        let path = self.root.join("commands").join(name);
+        fs::write(
+            &path,
+            format!("#!/bin/sh\necho {name} \"$1\" >>calls\n{does}\n"),
+        )
+        .unwrap();
+        fs::set_permissions(&path, fs::Permissions::from_mode(0o755)).unwrap();
+    }
+
+    fn set_up(&self) -> Output {
+        let search = format!("{}:/usr/bin:/bin", self.root.join("commands").display());
+        let mut command = Command::new(self.root.join("examples/set_up"));
+        command.env("PATH", search).output().expect("it runs")
+    }
+
+    /// Which commands were called, and what was said.
+    fn calls(&self) -> (String, String) {
+        let _ = fs::remove_file(self.root.join("calls"));
+        let output = self.set_up();
+        assert!(output.status.success(), "{output:?}");
+        let calls = fs::read_to_string(self.root.join("calls")).unwrap();
+        (calls, String::from_utf8(output.stderr).unwrap())
+    }
+
+    /// Makes everything in the crates' folder newer than what was built.
+    fn change_a_crate(&self) {
+        std::thread::sleep(std::time::Duration::from_millis(20));
+        fs::write(self.root.join("crates/changed.rt"), "").unwrap();
+    }
+}
+
+#[test]
+fn setting_up_says_how_long_it_takes_and_is_done_once() {
+    let repository = Repository::new("set_up_once");
+    let (calls, said) = repository.calls();
+    assert_eq!(calls, "rt check\nrt staticlib\ncargo build\n");
+    assert!(
+        said.contains("about three minutes, once") && said.contains("some seconds, once"),
+        "{said}"
+    );
+    assert_eq!(repository.calls(), ("cargo build\n".into(), String::new()));
+    repository.change_a_crate();
+    let (calls, said) = repository.calls();
+    assert_eq!(calls, "rt check\nrt staticlib\ncargo build\n");
+    assert!(said.contains("about three minutes"), "{said}");
+}
+
+#[test]
+fn a_crate_that_changes_meanwhile_is_taken_for_new() {
+    let repository = Repository::new("set_up_meanwhile");
+    let built =
+        "mkdir -p target/bin target/staticlib; touch target/bin/slp target/staticlib/libexports.a";
+    repository.command(
+        "rt",
+        &format!("sleep 0.02; touch crates/changed.rt; {built}"),
+    );
+    let (calls, _) = repository.calls();
+    assert_eq!(repository.calls().0, calls);
+    assert!(calls.starts_with("rt check\n"), "{calls}");
+}
+
+#[test]
+fn a_step_that_fails_is_shown() {
+    for (name, called, failing) in [
+        ("rt", "rt check slp", "set_up_rt"),
+        ("cargo", "cargo build --release", "set_up_cargo"),
+    ] {
+        let repository = Repository::new(failing);
+        repository.command(name, "echo something is wrong\nexit 1");
+        let output = repository.set_up();
+        let said = String::from_utf8(output.stderr).unwrap();
+        assert!(!output.status.success(), "{said}");
+        assert!(
+            said.contains(&format!(
+                "something is wrong\nset_up: this failed: {called}"
+            )),
+            "{said}"
+        );
+        assert_eq!(output.stdout, b"");
+    }
+}
+
+#[test]
+fn a_missing_kit_is_said() {
+    let repository = Repository::new("set_up_without");
+    fs::remove_file(repository.root.join("commands/rt")).unwrap();
+    let output = repository.set_up();
+    let said = String::from_utf8(output.stderr).unwrap();
+    assert!(!output.status.success());
+    assert_eq!(
+        said,
+        "set_up: the Rattle kit (rt) is not found: README.md says where it comes from\n"
+    );
+}
+
+// The README.
+
+/// The README's commands for the tool that can be pasted as they stand: those whose files are in `examples`.
+fn pasted() -> Vec<String> {
+    let readme = stored_text("README.md");
+    let lines = readme
+        .lines()
+        .filter_map(|line| line.strip_prefix("    dusterteal "));
+    let own = lines.filter(|line| line.contains("examples/"));
+    own.map(str::to_owned).collect()
+}
+
+#[test]
+fn the_commands_of_the_readme_run() {
+    let commands = pasted();
+    let subcommands: Vec<&str> = commands
+        .iter()
+        .filter_map(|line| line.split(' ').next())
+        .collect();
+    assert_eq!(
+        subcommands,
+        ["series", "sums", "days", "explain", "day", "check", "compare"]
+    );
+    for command in &commands {
+        let words: Vec<&str> = command.split(' ').collect();
+        let outcome = tool::run(&words);
+        assert_eq!(outcome.status, 0, "{command}: {}", outcome.said);
+        let is_file = words.contains(&"-o");
+        assert_eq!(outcome.written.is_empty(), is_file, "{command}");
+    }
+}
+
+/// The lines of a series that the README shows are those of its first command's run.
+#[test]
+fn the_lines_of_the_readme_are_those_of_its_series() {
+    let readme = stored_text("README.md");
+    let shown: Vec<&str> = readme
+        .lines()
+        .filter_map(|line| line.strip_prefix("    2000-10-29;"))
+        .collect();
+    assert_eq!(shown.len(), 2);
+    let command = pasted()
+        .remove(0)
+        .replace("2000-Q2", "2000-10-29")
+        .replace("target/series.csv", "-");
+    let series = written(&command.split(' ').collect::<Vec<_>>());
+    for line in shown {
+        assert!(series.contains(&format!("\n2000-10-29;{line}\n")), "{line}");
+    }
+}
+
+// The files.
+
+#[test]
+fn the_made_up_values_are_those_of_the_formula() {
+    let mut values = [0; slp::GROUP_VALUES];
+    slp::read(&stored("examples/made_up.slp"), slp::Group::G0, &mut values).unwrap();
     let mut wanted = Vec::new();
     for c in 0..9 {
         let (s, d) = ([2, 0, 1][c / 3], c % 3);
@@ -26,41 +300,42 @@ fn the_values_are_those_of_the_formula() {
             }),
         );
     }
-    let values = csv::parse(&table()).unwrap().values;
     assert!(values.into_iter().map(usize::from).eq(wanted));
 }
 
 #[test]
 fn packing_the_table_makes_the_profile_file() {
-    let out = scratch("packed.slp");
-    written(slp_csv(&["pack", &example("made_up.csv"), &text(&out)]));
-    assert_eq!(fs::read(out).unwrap(), made_up());
+    let out = text(&folder("packed").join("made_up.slp"));
+    assert_eq!(written(&["pack", "examples/made_up.csv", "-o", &out]), "");
+    assert!(fs::read(Path::new(&out)).unwrap() == stored("examples/made_up.slp"));
 }
 
 #[test]
 fn unpacking_the_profile_file_makes_the_table() {
-    let unpacked = written(slp_csv(&["unpack", &example("made_up.slp"), "G0"]));
-    let table = table();
-    let remarks_left_out = table
+    let table = stored_text("examples/made_up.csv");
+    let remarks_left_out: String = table
         .split_inclusive('\n')
-        .filter(|line| !line.starts_with('#'));
+        .filter(|line| !line.starts_with('#'))
+        .collect();
     assert_eq!(
-        String::from_utf8(unpacked).unwrap(),
-        remarks_left_out.collect::<String>()
+        written(&["unpack", "examples/made_up.slp", "G0"]),
+        remarks_left_out
     );
 }
 
 #[test]
-fn the_request_is_made_anew() {
-    let (holidays, profile) = (example("holidays_2000.txt"), example("made_up.slp"));
-    let arguments = [
+fn the_years_listing_and_request_are_made_anew() {
+    let year = [
         "G0",
-        "2000-01-01",
-        "2000-12-31",
+        "2000",
         "3500",
-        &holidays,
-        &profile,
+        "--profiles",
+        "examples/made_up.slp",
+        "--holidays",
+        "examples/holidays_2000.txt",
     ];
-    let made = written(slp_request(&arguments));
-    assert_eq!(made, fs::read(example("year_2000.request")).unwrap());
+    let listing = written(&[&["days"], &year[..]].concat());
+    assert!(listing == stored_text("examples/year_2000.txt"));
+    let outcome = tool::run(&[&["request"], &year[..]].concat());
+    assert!(outcome.written == stored("examples/year_2000.request"));
 }
