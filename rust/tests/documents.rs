@@ -42,21 +42,34 @@ fn has(name: &str, edit_or_path: &str) -> bool {
     edit.is_file() || folder.join(edit_or_path).exists()
 }
 
-/// The source of what stands before `::`: a crate, the Rust package, its reference, or one of its tests.
+/// The source of what stands before `::`: a crate, the Rust package, its tool, its reference, or one of its tests, which is a file
+/// or a folder with a `main.rs`.
 fn source_of(home: &str) -> Option<String> {
+    let test = format!("rust/tests/{home}");
+    let is_test = repository::path(&test).join("main.rs").is_file();
     let folders = [
         (is_crate(home), format!("crates/{home}/src")),
         (home == "slp", "rust/src".to_owned()),
+        (home == "dusterteal", "rust/src/bin/dusterteal".to_owned()),
         (home == "reference", "rust/reference/src".to_owned()),
+        (is_test, test),
     ];
     let mut files = vec![repository::path(&format!("rust/tests/{home}.rs"))];
     for (_, folder) in folders.iter().filter(|(is_home, _)| *is_home) {
         let folder = repository::path(folder);
-        files.extend(names_in(&folder).iter().map(|name| folder.join(name)));
+        if folder.is_dir() {
+            files.extend(names_in(&folder).iter().map(|name| folder.join(name)));
+        }
     }
-    files.retain(|path| path.is_file());
+    files.retain(|path| path.is_file() && is_source(path));
     let read = |path: &PathBuf| fs::read_to_string(path).unwrap();
     (!files.is_empty()).then(|| files.iter().map(read).collect())
+}
+
+/// Whether a file's name is that of Rust's or Rattle's source.
+fn is_source(path: &Path) -> bool {
+    let extension = path.extension();
+    extension.is_some_and(|extension| extension == "rs" || extension == "rt")
 }
 
 /// Whether a source declares this name, or with `put_..` one that begins so.
