@@ -1,6 +1,8 @@
 //! `sums`: counts and energy of a period's days, months, quarters or years as CSV.
 use std::ffi::OsString;
 
+use slp::Expansion;
+
 use crate::about;
 use crate::amounts::{put_number, Format, Unit, DECIMAL, UNIT};
 use crate::arguments::{self, Choice, Grammar};
@@ -137,18 +139,38 @@ fn sums(run: &Run, series: &Series, row: Row) -> Result<Vec<Sum>, Failure> {
         }
         total.add(figures);
     }
-    let made = series.made;
-    if (total.values, total.energy) != (made.count as u64, made.total) {
-        let what = "fault of this tool: its own sum is not that of the proved call; do not use it";
-        return Err(Failure::Refused(what.to_owned()));
-    }
-    sums.push(total);
+    sums.push(last_line(total, series.made)?);
     Ok(sums)
+}
+
+/// The total, which must be that of the proved call: a difference is a fault.
+fn last_line(total: Sum, made: Expansion) -> Result<Sum, Failure> {
+    if (total.values, total.energy) == (made.count as u64, made.total) {
+        return Ok(total);
+    }
+    let what = "fault of this tool: its own sum is not that of the proved call; do not use it";
+    Err(Failure::Refused(what.to_owned()))
 }
 
 #[cfg(test)]
 mod tests {
     use super::*;
+
+    #[test]
+    fn a_sum_that_differs_from_the_proved_call_is_a_fault() {
+        let mut total = Sum::named("total");
+        total.add(&[3, 4]);
+        let made = |count, total| Expansion {
+            count,
+            total,
+            carry: 0,
+        };
+        assert_eq!(last_line(total.clone(), made(2, 7)), Ok(total.clone()));
+        for wrong in [made(2, 8), made(3, 7)] {
+            let fault = last_line(total.clone(), wrong).unwrap_err();
+            assert!(fault.to_string().starts_with("fault of this tool"));
+        }
+    }
 
     #[test]
     fn rows_are_named_as_periods_are() {
