@@ -5,15 +5,13 @@ use mathlib.Core.Bool.{Bool, true, false, cond}
 use mathlib.Core.List.{[]}
 use Prim.Native.Nat.{ℕ}
 use native.Mathlib.Omega.{arith}
-use lib.Dec.{eqb}
 use lib.ListN.{length, take}
 use lib.Seq.{take-append-seam}
 use Rattle.lists.specs.Lists.{sum}
-use Rattle.refusal.specs.declared.Refusal.{Refusal}
-use Rattle.refusal.specs.declared.Refusal.the-variants.{NoMark, WrongVersion, WrongLength, BadCode, BadValue, NoGroup, BadDate, BadPeriod, BadHoliday, BadUse, BadCarry, ShortOutput, BadInput}
 use Rattle.refusal.specs.declared.Verdict.{Verdict}
 use Rattle.refusal.specs.declared.Verdict.the-variants.{Pass, Refused}
-use Rattle.refusal.specs.Questions.{refusalNumber, lentAfter}
+use Rattle.refusal.specs.Questions.{lentAfter}
+use Rattle.refusal.proofs.Questions.{number-above-0}
 use Rattle.carry.specs.declared.Totals.{Totals}
 use Rattle.carry.specs.Energy.{powers}
 use Rattle.carry.specs.Carry.{lastCarry}
@@ -24,23 +22,7 @@ use Rattle.call_expand.specs.Expanding.{expandCheck, totals, expansion, outputA
 use Rattle.claim_successive.specs.Reports.{isAccepted, isExpanded, ExpandReports}
 use Rattle.claim_successive.specs.SuccessiveCalls.{Call, ByContract, carryAfter, figuresOf}
 
--- a refusal's number is never 0
-number-above-0 : (r : Refusal) → eqb (refusalNumber r) 0 ≡ false
-number-above-0 NoMark = refl
-number-above-0 WrongVersion = refl
-number-above-0 WrongLength = refl
-number-above-0 (BadCode at) = refl
-number-above-0 (BadValue at) = refl
-number-above-0 (NoGroup which) = refl
-number-above-0 (BadDate which) = refl
-number-above-0 BadPeriod = refl
-number-above-0 (BadHoliday index) = refl
-number-above-0 BadUse = refl
-number-above-0 BadCarry = refl
-number-above-0 (ShortOutput needed) = refl
-number-above-0 BadInput = refl
-
--- so the report of an answer tells its case
+-- the report of an answer tells its case
 told : (v : Verdict) (t : Totals) → isAccepted (reported (answered v t)) ≡ isExpanded (answered v t)
 told Pass t = refl
 told (Refused r) t = number-above-0 r

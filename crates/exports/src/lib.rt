@@ -1,7 +1,8 @@
-// The calls of document 01 for other languages: numbers and slices in, structs of numbers out. A slice goes as a pointer and a
+// The calls of documents 01 and 02 for other languages: numbers and slices in, structs of numbers out. A slice goes as a pointer and a
 // length. Each has the contract of the call that it makes, by the numbers of its answer.
 use call_day::DayReport;
 use call_expansion::ExpansionReport;
+use call_holidays::HolidaysReport;
 use file_compare::ComparisonReport;
 use file_locate::LocatedPart;
 use program_response::ResponseReport;
@@ -15,6 +16,7 @@ ghost use Rattle.file_read.specs.Reading.{readCheck, tableAfter};
 ghost use Rattle.file_compare.specs.Comparing.{comparison, reported as reportedComparison};
 ghost use Rattle.file_write_check.specs.WriteCheck.{writeCheck};
 ghost use Rattle.file_write.specs.Buffer.{bufferAfter};
+ghost use Rattle.call_holidays.specs.Holidays.{holidaysAnswer, listAfter, reported as reportedHolidays};
 ghost use Rattle.call_day.specs.Enquiry.{dayEnquiry, reported as reportedDay};
 ghost use Rattle.call_request.specs.Request.{request};
 ghost use Rattle.call_expand.specs.Expanding.{Reports};
@@ -60,6 +62,15 @@ pub extern "C" fn slp_compare(file: &[u8], first: u8, second: u8) -> ComparisonR
     ensures { λ r. ⌜ r ≡ reportedComparison (comparison (now (file .entry)) first second) ⌝ }
 {
     file_compare::report(file_compare::compare(file, first, second))
+}
+
+// The holidays of a year, into a list.
+#[no_mangle]
+pub extern "C" fn slp_holidays(year: u32, choice: u8, list: &mut [u32]) -> HolidaysReport
+    ensures { λ r. ⌜ r ≡ reportedHolidays (holidaysAnswer year choice (length (now (list .entry)))) ⌝ }
+    ensures { λ r. ⌜ now (list .exit) ≡ listAfter year choice (now (list .entry)) ⌝ }
+{
+    call_holidays::report(call_holidays::list_holidays(year, choice, list))
 }
 
 // The day enquiry.

@@ -6,12 +6,15 @@ use Prim.Native.Nat.{ℕ, zero, suc, _+_, _-_, _*_, _≤_, _<_}
 use native.Mathlib.Omega.{arith}
 use native.Mathlib.Nat.{suc-mul}
 use denote.Enum.Declared.{tagOf, declared}
+use lib.Dec.{eqb}
 use borrow.Author.Tests.{leb-true, le-leb, lt-leb}
 use Rattle.refusal.specs.declared.Verdict.{Verdict}
 use Rattle.refusal.specs.declared.Verdict.the-variants.{Pass, Refused}
 use Rattle.refusal.specs.declared.Refusal.{Refusal}
-use Rattle.refusal.specs.declared.Refusal.the-variants.{ShortOutput}
-use Rattle.refusal.specs.Questions.{reported, ask, _then_, askEach, roomQuestion, onPass}
+use Rattle.refusal.specs.declared.Refusal.the-variants.{NoMark, WrongVersion, WrongLength, BadCode, BadValue, NoGroup, BadDate}
+use Rattle.refusal.specs.declared.Refusal.the-variants.{BadPeriod, BadHoliday, BadUse, BadCarry, ShortOutput, BadInput}
+use Rattle.refusal.specs.declared.Refusal.the-variants.{BadYear, BadChoice, ShortList}
+use Rattle.refusal.specs.Questions.{refusalNumber, reported, ask, _then_, askEach, roomQuestion, onPass}
 use Rattle.refusal.proofs.Verdict.{enum}
 
 -- what the `else` of `let Verdict::Pass = v else { .. }` knows of v, and what follows it knows
@@ -171,3 +174,22 @@ each-passed question step (suc n) at (suc k) h l =
 pub both : (a b : Bool) → (a && b) ≡ true → (a ≡ true) × (b ≡ true)
 both true b h = (refl, h)
 both false b h = let z : _≡_ {A = ℕ} 0 1 = cc in absurd (omega arith)
+
+-- a refusal's number is never 0
+pub number-above-0 : (r : Refusal) → eqb (refusalNumber r) 0 ≡ false
+number-above-0 NoMark = refl
+number-above-0 WrongVersion = refl
+number-above-0 WrongLength = refl
+number-above-0 (BadCode at) = refl
+number-above-0 (BadValue at) = refl
+number-above-0 (NoGroup which) = refl
+number-above-0 (BadDate which) = refl
+number-above-0 BadPeriod = refl
+number-above-0 (BadHoliday index) = refl
+number-above-0 BadUse = refl
+number-above-0 BadCarry = refl
+number-above-0 (ShortOutput needed) = refl
+number-above-0 BadInput = refl
+number-above-0 BadYear = refl
+number-above-0 BadChoice = refl
+number-above-0 (ShortList needed) = refl

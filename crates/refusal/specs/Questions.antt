@@ -8,12 +8,13 @@ use lib.ListN.{length, drop}
 use Rattle.refusal.specs.declared.Refusal.{Refusal}
 use Rattle.refusal.specs.declared.Refusal.the-variants.{NoMark, WrongVersion, WrongLength, BadCode, BadValue, NoGroup, BadDate}
 use Rattle.refusal.specs.declared.Refusal.the-variants.{BadPeriod, BadHoliday, BadUse, BadCarry, ShortOutput, BadInput}
+use Rattle.refusal.specs.declared.Refusal.the-variants.{BadYear, BadChoice, ShortList}
 use Rattle.refusal.specs.declared.CheckReport.{CheckReport}
 use Rattle.refusal.specs.declared.Verdict.{Verdict}
 use Rattle.refusal.specs.declared.Verdict.the-variants.{Pass, Refused}
 
 infixr 5 _then_
--- the questions' numbers, 1 to 13
+-- the questions' numbers: 1 to 13 of document 01, and those of document 02, "New questions, here and later, count as document 01's"
 abbrev pub refusalNumber : Refusal → ℕ
 refusalNumber NoMark = 1
 refusalNumber WrongVersion = 2
@@ -28,6 +29,9 @@ refusalNumber BadUse = 10
 refusalNumber BadCarry = 11
 refusalNumber (ShortOutput needed) = 12
 refusalNumber BadInput = 13
+refusalNumber BadYear = 14
+refusalNumber BadChoice = 15
+refusalNumber (ShortList needed) = 16
 
 -- "Place is 0 where none is named."
 abbrev pub refusalPlace : Refusal → ℕ
@@ -44,6 +48,9 @@ refusalPlace BadUse = 0
 refusalPlace BadCarry = 0
 refusalPlace (ShortOutput needed) = needed
 refusalPlace BadInput = 0
+refusalPlace BadYear = 0
+refusalPlace BadChoice = 0
+refusalPlace (ShortList needed) = needed
 
 -- "number and place, both 0 when all pass"
 abbrev pub number : Verdict → ℕ

@@ -2,7 +2,7 @@
 ghost use mathlib.Core.Path.{_≡_};
 ghost use Rattle.refusal.specs.Questions.{refusalNumber, refusalPlace, reported, roomQuestion};
 
-// The question that did not pass, with its place where document 01 names one.
+// The question that did not pass, with its place where document 01 or 02 names one.
 pub enum Refusal {
     NoMark,
     WrongVersion,
@@ -17,6 +17,9 @@ pub enum Refusal {
     BadCarry,
     ShortOutput(usize),
     BadInput,
+    BadYear,
+    BadChoice,
+    ShortList(usize),
 }
 
 // Every question asked passed, or the first one that did not.
@@ -50,6 +53,9 @@ pub fn number_of(r: Refusal) -> u32
         Refusal::BadCarry => 11,
         Refusal::ShortOutput(_) => 12,
         Refusal::BadInput => 13,
+        Refusal::BadYear => 14,
+        Refusal::BadChoice => 15,
+        Refusal::ShortList(_) => 16,
     }
 }
 
@@ -71,6 +77,9 @@ pub fn place_of(r: Refusal) -> usize
         Refusal::BadCarry => 0,
         Refusal::ShortOutput(needed) => needed,
         Refusal::BadInput => 0,
+        Refusal::BadYear => 0,
+        Refusal::BadChoice => 0,
+        Refusal::ShortList(needed) => needed,
     }
 }
 

@@ -1,0 +1,4 @@
+pub mod Years
+pub mod Easter
+pub mod MarchDays
+pub mod Repentance

@@ -1,0 +1,4 @@
+pub mod Counted
+pub mod Easter
+pub mod Repentance
+pub mod Inside

@@ -1,0 +1,3 @@
+pub mod Gathering
+pub mod Calendar
+pub mod Chosen

@@ -1,0 +1,3 @@
+pub mod WorkedYears
+pub mod NotByNine
+pub mod ListGiven

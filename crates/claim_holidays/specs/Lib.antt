@@ -1,0 +1,2 @@
+pub mod WorkedYears
+pub mod ListGiven

@@ -1,0 +1,2 @@
+// Document 02, (a): the worked years, and "Every list given passes question 9.", said of the call that gives a list and of those that are
+// given it. The statements stand in specs/ and the proofs in proofs/, by the same names; there is no code.
