@@ -4,10 +4,10 @@
  * cc -I include main.c target/staticlib/libexports.a
  *
  * Every call takes any bytes, values and numbers, in any amount, ends, and either does its work (number 0) or is refused by the
- * first question of document 01 that is answered "no": `number` is then that question's number, `place` the place it names (0
- * where it names none), every other field is 0, and lent memory keeps its content. slp_locate alone gives no number: it answers
- * the part of length 0, and slp_check, which asks the same questions, gives number and place. Of its pointers a call asks what is
- * said below the table; no call can find that out by itself.
+ * first question of document 01 that is answered "no" (14 to 16 are document 02's): `number` is then that question's number, `place`
+ * the place it names (0 where it names none), every other field is 0, and lent memory keeps its content. slp_locate alone gives no
+ * number: it answers the part of length 0, and slp_check, which asks the same questions, gives number and place. Of its pointers a
+ * call asks what is said below the table; no call can find that out by itself.
  *
  *   number  what is wrong                                                       place
  *        1  the file has fewer than 6 bytes or does not begin with "SLP"        0
@@ -26,6 +26,9 @@
  *                                                                               bytes)
  *       13  (in the text of slp_respond alone) the input has more than 65,536   0
  *           bytes, or its head or list is not complete
+ *       14  the year is not one from 1996 to 2099                               0
+ *       15  the choice of regional days is above 63                             0
+ *       16  the list for the holidays is too short                              entries needed
  *
  * All memory is the caller's: it is lent for the length of the call, nothing is allocated, kept or freed. A pointer points
  * at `.._length` entries (entries, not bytes) and is not NULL, also where the length is 0. What a call writes to overlaps
@@ -56,6 +59,9 @@ extern "C" {
 
 /* Enough bytes of page for what slp_respond writes for every input. */
 #define SLP_PAGE_LENGTH 65536
+
+/* Enough entries for the holidays of every year. */
+#define SLP_MOST_HOLIDAYS 17
 
 /* Passed (number 0, place 0) or refused. */
 struct slp_check_report {
@@ -101,6 +107,13 @@ struct slp_response_report {
     uint32_t number;
     size_t place;
     size_t length; /* bytes written */
+};
+
+/* How many holidays were written. */
+struct slp_holidays_report {
+    uint32_t number;
+    size_t place;
+    size_t length; /* dates written, 10 to 17 */
 };
 
 /* Whether `file` is a profile file that has `group`. Questions 1 to 6. Writes nothing. */
@@ -153,6 +166,16 @@ struct slp_expansion_report slp_expand(const uint8_t *file, size_t file_length, 
  * refused by question 12 alone (place: the bytes needed; SLP_PAGE_LENGTH is always enough).
  */
 struct slp_response_report slp_respond(const uint8_t *input, size_t input_length, uint8_t *page, size_t page_length);
+
+/*
+ * Writes the German holidays of `year` into the first entries of `list` and keeps those beyond: the eleven days that all of
+ * Germany keeps (New Year, Good Friday, Easter Sunday and Monday, 1 May, Ascension Day, Whit Sunday and Monday, 3 October, 25 and
+ * 26 December), and the regional days whose bit is set in `choice`: 0 Epiphany, 1 Corpus Christi, 2 Assumption Day, 3 Reformation
+ * Day, 4 All Saints' Day, 5 Day of Repentance, so that 17 is Epiphany and All Saints' Day. The dates rise, and one that is met twice (1 May 2008, Ascension Day too) is listed
+ * once, so slp_day and slp_expand take the list. 24 and 31 December are not in it: they count as Saturday by themselves, where they
+ * are no Sundays. Questions 14, 15 and 16 (place: the entries needed; SLP_MOST_HOLIDAYS is always enough).
+ */
+struct slp_holidays_report slp_holidays(uint32_t year, uint8_t choice, uint32_t *list, size_t list_length);
 
 #ifdef __cplusplus
 }

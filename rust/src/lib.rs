@@ -29,10 +29,12 @@
 
 mod group;
 mod refusal;
+mod regional_day;
 pub mod report;
 
 pub use group::{Group, UnknownGroup};
 pub use refusal::{Refusal, RefusalKind};
+pub use regional_day::{RegionalDay, UnknownRegionalDay};
 
 /// The values of one group: three seasons, three day types, 96 quarter hours.
 pub const GROUP_VALUES: usize = 864;
@@ -42,6 +44,9 @@ pub const LONGEST_SERIES: usize = 1_461 * 100;
 
 /// Enough bytes of page for what the program prints for every input.
 pub const PAGE_LENGTH: usize = 65_536;
+
+/// Enough entries for the holidays of every year: eleven of all of Germany and six regional ones.
+pub const MOST_HOLIDAYS: usize = 17;
 
 /// The length in bytes of a profile file with `count` groups.
 ///
@@ -310,6 +315,29 @@ pub fn expand(request: &Request, out: &mut [u32]) -> Result<Expansion, Refusal> 
 /// ```
 pub fn respond(input: &[u8], page: &mut [u8]) -> Result<usize, Refusal> {
     let report = report::respond(input, page);
+    verdict(report.number, report.place)?;
+    Ok(report.length)
+}
+
+/// Writes the German holidays of a year into the first entries of `list` and answers how many they are: the eleven days that all of
+/// Germany keeps, and these regional ones. Questions 14 and 16. A list of [`MOST_HOLIDAYS`] entries is always long enough.
+///
+/// The dates rise, and one that is met twice is listed once, as 1 May 2008, which is Ascension Day too. So the list is one that
+/// [`day`] and [`expand`] take. 24 and 31 December are not in it: they count as Saturday by themselves, where they are no Sundays.
+///
+/// ```
+/// let mut list = [0; slp::MOST_HOLIDAYS];
+/// let length = slp::holidays(2000, &[slp::RegionalDay::CorpusChristi], &mut list)?;
+/// assert_eq!(length, 12);
+/// assert_eq!(list[..4], [20000101, 20000421, 20000423, 20000424]);
+/// assert_eq!(slp::day(20000622, &list[..length])?.day_type, slp::DayType::Sunday);
+///
+/// let refusal = slp::holidays(2000, &[], &mut list[..10]).unwrap_err();
+/// assert_eq!(refusal, slp::Refusal { kind: slp::RefusalKind::ShortList, place: 11 });
+/// # Ok::<(), slp::Refusal>(())
+/// ```
+pub fn holidays(year: u32, regional: &[RegionalDay], list: &mut [u32]) -> Result<usize, Refusal> {
+    let report = report::holidays(year, RegionalDay::choice(regional), list);
     verdict(report.number, report.place)?;
     Ok(report.length)
 }

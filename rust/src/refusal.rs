@@ -1,7 +1,7 @@
 //! Why a call is refused.
 use std::fmt;
 
-/// The first question of document 01 that was answered "no".
+/// The first question of document 01 that was answered "no". The questions of later requests, from 14 on, count as that document's.
 #[derive(Debug, Clone, Copy, PartialEq, Eq, Hash)]
 pub struct Refusal {
     /// Which question it is.
@@ -10,7 +10,7 @@ pub struct Refusal {
     pub place: usize,
 }
 
-/// The questions that refuse a call, by document 01's numbers.
+/// The questions that refuse a call, by the numbers of documents 01 and 02. Question 13 refuses no call: it is the program's.
 #[derive(Debug, Clone, Copy, PartialEq, Eq, PartialOrd, Ord, Hash)]
 #[non_exhaustive]
 pub enum RefusalKind {
@@ -38,10 +38,16 @@ pub enum RefusalKind {
     BadCarry = 11,
     /// The output is too short. The place is the number of entries needed; writing and responding: of bytes.
     ShortOutput = 12,
+    /// The year is not one from 1996 to 2099.
+    BadYear = 14,
+    /// The choice of regional days is above 63.
+    BadChoice = 15,
+    /// The list for the holidays is too short. The place is the number of entries needed.
+    ShortList = 16,
 }
 
 impl RefusalKind {
-    /// All kinds, in the order of their numbers, the first of which is 1.
+    /// All kinds, in the order of their numbers, which are 1 to 12 and 14 to 16.
     pub const ALL: &'static [RefusalKind] = &[
         RefusalKind::NoMark,
         RefusalKind::WrongVersion,
@@ -55,6 +61,9 @@ impl RefusalKind {
         RefusalKind::BadUse,
         RefusalKind::BadCarry,
         RefusalKind::ShortOutput,
+        RefusalKind::BadYear,
+        RefusalKind::BadChoice,
+        RefusalKind::ShortList,
     ];
 
     /// The question's number.
@@ -89,6 +98,9 @@ impl RefusalKind {
             RefusalKind::BadUse => "the yearly use is above 1,000,000,000 kWh",
             RefusalKind::BadCarry => "the carry is above 39,999",
             RefusalKind::ShortOutput => "the output is too short",
+            RefusalKind::BadYear => "the year is not one from 1996 to 2099",
+            RefusalKind::BadChoice => "the choice of regional days is above 63",
+            RefusalKind::ShortList => "the list for the holidays is too short",
         }
     }
 }
@@ -118,15 +130,16 @@ mod tests {
     use std::collections::BTreeSet;
 
     #[test]
-    fn the_numbers_are_1_to_12_and_each_has_words_of_its_own() {
+    fn the_numbers_leave_out_13_and_each_has_words_of_its_own() {
         let kinds = || RefusalKind::ALL.iter().copied();
-        assert!(kinds().map(RefusalKind::number).eq(1..=12));
+        assert!(kinds().map(RefusalKind::number).eq((1..=12).chain(14..=16)));
         let words: BTreeSet<_> = kinds().map(RefusalKind::meaning).collect();
-        assert_eq!(words.len(), 12);
+        assert_eq!(words.len(), RefusalKind::ALL.len());
         for kind in kinds() {
             assert_eq!(RefusalKind::from_number(kind.number()), Some(kind));
         }
-        assert_eq!(RefusalKind::from_number(0), None);
-        assert_eq!(RefusalKind::from_number(13), None);
+        for number in [0, 13, 17] {
+            assert_eq!(RefusalKind::from_number(number), None);
+        }
     }
 }

@@ -1,5 +1,6 @@
-//! The calls as C has them: a group is any byte, and an answer is numbers, with zeros where the call is refused. The functions of
-//! the crate's root take a [`Group`](crate::Group) and answer a `Result`. The structs are those of `include/slp.h`.
+//! The calls as C has them: a group is any byte, a choice of regional days too, and an answer is numbers, with zeros where the call is
+//! refused. The functions of the crate's root take a [`Group`](crate::Group) or a list of [`RegionalDay`](crate::RegionalDay) and
+//! answer a `Result`. The structs are those of `include/slp.h`.
 #![allow(unsafe_code)]
 
 /// Passed (number 0, place 0) or refused.
@@ -82,6 +83,18 @@ pub struct ResponseReport {
     pub length: usize,
 }
 
+/// The answer of listing holidays.
+#[repr(C)]
+#[derive(Debug, Clone, Copy, PartialEq, Eq)]
+pub struct HolidaysReport {
+    /// The number of the question that refused the call, else 0.
+    pub number: u32,
+    /// The place that the question names, else 0.
+    pub place: usize,
+    /// How many dates were written.
+    pub length: usize,
+}
+
 /// What expanding is given beside its output.
 #[derive(Debug, Clone, Copy, PartialEq, Eq)]
 pub struct Request<'a> {
@@ -140,6 +153,7 @@ extern "C" {
         page: *mut u8,
         page_length: usize,
     ) -> ResponseReport;
+    fn slp_holidays(year: u32, choice: u8, list: *mut u32, list_length: usize) -> HolidaysReport;
 }
 
 // Each pointer and length below is that of one slice, borrowed for the length of the call, as `slp.h` asks; a `&mut` overlaps
@@ -214,4 +228,9 @@ pub fn expand(request: &Request, out: &mut [u32]) -> ExpansionReport {
 /// `slp_respond`.
 pub fn respond(input: &[u8], page: &mut [u8]) -> ResponseReport {
     unsafe { slp_respond(input.as_ptr(), input.len(), page.as_mut_ptr(), page.len()) }
+}
+
+/// `slp_holidays`. Bits 0 to 5 of `choice` are those of [`RegionalDay`](crate::RegionalDay).
+pub fn holidays(year: u32, choice: u8, list: &mut [u32]) -> HolidaysReport {
+    unsafe { slp_holidays(year, choice, list.as_mut_ptr(), list.len()) }
 }

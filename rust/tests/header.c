@@ -108,11 +108,33 @@ static void text(void)
     expect("bytes needed", tight.place, sizeof lines - 1);
 }
 
+static void holiday_list(void)
+{
+    static uint32_t list[SLP_MOST_HOLIDAYS];
+    list[12] = 7;
+    struct slp_holidays_report made = slp_holidays(2000, 2, list, SLP_MOST_HOLIDAYS);
+    expect("holidays", made.number, 0);
+    expect("place", made.place, 0);
+    expect("length", made.length, 12);
+    expect("New Year's Day", list[0], 20000101);
+    expect("Corpus Christi", list[8], 20000622);
+    expect("second day of Christmas", list[11], 20001226);
+    expect("entry beyond the list", list[12], 7);
+    expect("day type of Corpus Christi", slp_day(20000622, list, made.length).day_type, 3);
+    expect("length with all regional days", slp_holidays(2000, 63, list, SLP_MOST_HOLIDAYS).length, SLP_MOST_HOLIDAYS);
+    expect("holidays of 1995", slp_holidays(1995, 0, list, SLP_MOST_HOLIDAYS).number, 14);
+    expect("choice 64", slp_holidays(2000, 64, list, SLP_MOST_HOLIDAYS).number, 15);
+    struct slp_holidays_report tight = slp_holidays(2000, 2, list, 11);
+    expect("holidays in 11 entries", tight.number, 16);
+    expect("entries needed for the list", tight.place, 12);
+}
+
 int main(void)
 {
     file_calls();
     day_call();
     listing();
     text();
+    holiday_list();
     return faults == 0 ? 0 : 1;
 }

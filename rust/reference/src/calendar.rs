@@ -8,7 +8,7 @@ const LENGTHS: [u32; 12] = [31, 28, 31, 30, 31, 30, 31, 31, 30, 31, 30, 31];
 /// The most dates that a list of holidays holds.
 const MOST_HOLIDAYS: usize = 400;
 
-fn month_length(year: u32, month: u32) -> u32 {
+pub(crate) fn month_length(year: u32, month: u32) -> u32 {
     if month == 2 && year % 4 == 0 {
         29
     } else {

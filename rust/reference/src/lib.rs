@@ -1,9 +1,10 @@
-//! An independent implementation of document 01's calls and of the program's text, in plain Rust. It is written from documents
-//! 00 and 01 alone, and not from the proved code or its definitions: the tests hold every proved call to it, and the bench its
+//! An independent implementation of the calls of documents 01 and 02 and of the program's text, in plain Rust. It is written from
+//! the papers alone, and not from the proved code or its definitions: the tests hold every proved call to it, and the bench its
 //! speed. Each quarter hour is one carry step.
 //!
 //! The modules are document 01's parts: [`mod@file`] the profile file, [`calendar`] the calendar, [`dynamisation`] the
-//! households' factor, [`series`] series and carry, [`energy`] a run's energy and demand 3's bound, [`program`] the program.
+//! households' factor, [`series`] series and carry, [`energy`] a run's energy and demand 3's bound, [`program`] the program; and of
+//! document 02 [`mod@holidays`], request (a).
 //!
 //! A group is a code: 0 is H0, 1 to 7 are G0 to G6, 8 to 10 are L0 to L2. A date is a number yyyymmdd.
 
@@ -11,17 +12,19 @@ pub mod calendar;
 pub mod dynamisation;
 pub mod energy;
 pub mod file;
+pub mod holidays;
 pub mod program;
 pub mod series;
 
 pub use calendar::{day, DayAnswer, DayType, Season};
 pub use file::{check, compare, locate, read, write};
+pub use holidays::holidays;
 pub use series::{expand, Expansion, Request};
 
-/// The first question of document 01 that was answered "no".
+/// The first question that was answered "no".
 #[derive(Debug, Clone, Copy, PartialEq, Eq)]
 pub struct Refusal {
-    /// The question's number, 1 to 13.
+    /// The question's number, 1 to 16.
     pub number: u32,
     /// The place that the question names, else 0.
     pub place: usize,

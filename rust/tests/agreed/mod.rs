@@ -7,9 +7,10 @@ use std::fmt::Debug;
 use reference::file::{HEAD, PROFILE, VALUES};
 use reference::{DayAnswer, Expansion, Refusal};
 use slp::report::{
-    CheckReport, ComparisonReport, DayReport, ExpansionReport, LocatedPart, Request, ResponseReport,
+    CheckReport, ComparisonReport, DayReport, ExpansionReport, HolidaysReport, LocatedPart,
+    Request, ResponseReport,
 };
-use slp::{DayType, Group, RefusalKind, Season};
+use slp::{DayType, Group, RefusalKind, RegionalDay, Season};
 
 /// A refusal, as a test expects it.
 pub fn refused<T>(number: u32, place: usize) -> Result<T, Refusal> {
@@ -32,7 +33,7 @@ fn check_report(answer: &Result<(), Refusal>) -> CheckReport {
 /// The reference's answer as the package's root gives it.
 fn result<T>(answer: Result<T, Refusal>) -> Result<T, slp::Refusal> {
     answer.map_err(|Refusal { number, place }| slp::Refusal {
-        kind: RefusalKind::from_number(number).expect("a call's question is one of 1 to 12"),
+        kind: RefusalKind::from_number(number).expect("a call's question"),
         place,
     })
 }
@@ -282,5 +283,38 @@ pub fn respond(input: &[u8], page: &mut [u8], what: &str) -> Result<usize, Refus
     let found = lend(&before, page, what, |page| slp::respond(input, page));
     assert_eq!(found, result(answer), "{what}");
     expect_kept(&before, page, &answer, answer.unwrap_or(0), what);
+    answer
+}
+
+fn holidays_report(answer: &Result<usize, Refusal>) -> HolidaysReport {
+    let (number, place) = number_and_place(answer);
+    HolidaysReport {
+        number,
+        place,
+        length: *answer.as_ref().unwrap_or(&0),
+    }
+}
+
+/// The regional days whose bits are set, where no other bit is.
+fn chosen(choice: u8) -> Option<Vec<RegionalDay>> {
+    let days = RegionalDay::ALL.into_iter();
+    let chosen: Vec<RegionalDay> = days.filter(|day| choice >> day.bit() & 1 == 1).collect();
+    (RegionalDay::choice(&chosen) == choice).then_some(chosen)
+}
+
+pub fn holidays(year: u32, choice: u8, list: &mut [u32], what: &str) -> Result<usize, Refusal> {
+    let before = list.to_vec();
+    let answer = reference::holidays(year, choice, list);
+    let report = lend(&before, list, what, |list| {
+        slp::report::holidays(year, choice, list)
+    });
+    assert_eq!(report, holidays_report(&answer), "{what}");
+    if let Some(regional) = chosen(choice) {
+        let found = lend(&before, list, what, |list| {
+            slp::holidays(year, &regional, list)
+        });
+        assert_eq!(found, result(answer), "{what}");
+    }
+    expect_kept(&before, list, &answer, answer.unwrap_or(0), what);
     answer
 }
