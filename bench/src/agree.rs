@@ -1,6 +1,8 @@
 //! Holds all ways to the proved calls, the lent memory included: on the timed inputs, and on random ones, whole and damaged.
+use std::collections::BTreeMap;
+
 use reference::calendar::{day_of, Day};
-use slp::{file_length, Group, Refusal, RefusalKind, Request, GROUP_VALUES};
+use slp::{file_length, Group, Refusal, RefusalKind, RegionalDay, Request, GROUP_VALUES};
 
 use crate::calls::{Answer, Calls, Work, ALL, PROVED};
 use crate::inputs::Inputs;
@@ -24,10 +26,12 @@ fn same(lent: impl Fn() -> Work, run: impl Fn(&Calls, &mut Work)) -> Result<Work
 }
 
 fn difference(name: &str, proved: &Work, work: &Work) -> String {
-    if (&proved.expanded, &proved.answered) != (&work.expanded, &work.answered) {
-        let answers = |work: &Work| match work.expanded {
-            Some(expanded) => format!("{expanded:?}"),
-            None => format!("{:?}", work.answered),
+    let answered = |work: &Work| (work.expanded, work.answered, work.listed);
+    if answered(proved) != answered(work) {
+        let answers = |work: &Work| match answered(work) {
+            (Some(expanded), ..) => format!("{expanded:?}"),
+            (_, Some(answer), _) => format!("{answer:?}"),
+            (.., listed) => format!("{listed:?}"),
         };
         return format!(
             "{name} answers {}, the proved call {}",
@@ -38,7 +42,7 @@ fn difference(name: &str, proved: &Work, work: &Work) -> String {
     let mut figures = work.out.iter().zip(&proved.out);
     match figures.position(|(ours, theirs)| ours != theirs) {
         Some(i) => format!(
-            "{name} has figure {i} as {}, the proved call as {}",
+            "{name} has entry {i} as {}, the proved call as {}",
             work.out[i], proved.out[i]
         ),
         None => format!("{name} leaves another table or buffer than the proved call"),
@@ -67,6 +71,10 @@ struct Case {
     carry: u32,
     /// The lengths of the lent output, table and buffer.
     lent: [usize; 3],
+    year: u32,
+    regional: Vec<RegionalDay>,
+    /// The length of the list lent for the holidays.
+    lent_list: usize,
 }
 
 fn draw_groups(random: &mut Random) -> Vec<Group> {
@@ -148,6 +156,19 @@ fn draw_holidays(random: &mut Random, first: u32) -> Vec<u32> {
         .collect()
 }
 
+fn draw_year(random: &mut Random) -> u32 {
+    match random.below(8) {
+        0 => random.one_of(&[0, 1995, 2100, u32::MAX]),
+        1 => 2008,
+        _ => 1996 + random.below(104),
+    }
+}
+
+fn draw_regional(random: &mut Random) -> Vec<RegionalDay> {
+    let days = RegionalDay::ALL.into_iter();
+    days.filter(|_| random.once_in(2)).collect()
+}
+
 impl Case {
     fn draw(random: &mut Random) -> Case {
         let mut groups = draw_groups(random);
@@ -194,6 +215,9 @@ impl Case {
             carry: random.one_of(&carry),
             holidays,
             lent: [0; 3],
+            year: draw_year(random),
+            regional: draw_regional(random),
+            lent_list: random.one_of(&[0, 9, 10, 11, 14, 16, 17, 17, 17, 20]),
             file,
             groups,
             values,
@@ -226,8 +250,8 @@ impl Case {
         }
     }
 
-    /// All ways on the four calls: the proved answers.
-    fn run(&self) -> Result<[Answer; 4], String> {
+    /// All ways on the five calls: the proved answers.
+    fn run(&self) -> Result<[Answer; 5], String> {
         let [out, table, buffer] = self.lent;
         let lent = || Work::new(out, table, buffer);
         let request = self.request();
@@ -243,31 +267,54 @@ impl Case {
         let written = same(lent, |calls, work| {
             work.answered = Some((calls.write)(&self.groups, &self.values, &mut work.buffer));
         })?;
+        let listed = same(
+            || Work::new(self.lent_list, 0, 0),
+            |calls, work| {
+                let listed = (calls.holidays)(self.year, &self.regional, &mut work.out);
+                work.listed = Some(listed);
+            },
+        )?;
         let answers = [
             expanded.expanded.map(|answer| answer.map(|_| ())),
             checked.answered,
             read.answered,
             written.answered,
+            listed.listed.map(|answer| answer.map(|_| ())),
         ];
         Ok(answers.map(|answer| answer.expect("every call was made")))
     }
 }
 
-/// All ways on random requests: how many calls were accepted, then how many each question refused.
-pub fn on_random_requests() -> Result<[usize; 13], String> {
+/// How the random calls were answered.
+#[derive(Default)]
+pub struct Tally {
+    pub accepted: usize,
+    /// How many each question refused, by its number.
+    pub refused: BTreeMap<u32, usize>,
+}
+
+impl Tally {
+    fn note(&mut self, answer: Answer) {
+        match answer {
+            Ok(()) => self.accepted += 1,
+            Err(refusal) => *self.refused.entry(refusal.kind.number()).or_default() += 1,
+        }
+    }
+}
+
+/// All ways on random requests.
+pub fn on_random_requests() -> Result<Tally, String> {
     let mut random = Random::new(2_000);
-    let mut tally = [0; 13];
+    let mut tally = Tally::default();
     for i in 0..REQUESTS {
         let case = Case::draw(&mut random);
         let answers = case.run().map_err(|difference| {
             format!(
-                "random request {i} (group {}, {} to {}, {} kWh, carry {}, {} holidays): {difference}",
-                case.group, case.first, case.last, case.yearly, case.carry, case.holidays.len()
+                "random request {i} (group {}, {} to {}, {} kWh, carry {}, {} holidays; year {}, {:?}): {difference}",
+                case.group, case.first, case.last, case.yearly, case.carry, case.holidays.len(), case.year, case.regional
             )
         })?;
-        for answer in answers {
-            tally[answer.map_or_else(|refusal| refusal.kind.number() as usize, |()| 0)] += 1;
-        }
+        answers.into_iter().for_each(|answer| tally.note(answer));
     }
     Ok(tally)
 }

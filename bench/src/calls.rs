@@ -1,9 +1,12 @@
 //! The calls that are compared, for each implementation, and what they are lent and answer.
-use slp::{Expansion, Group, Refusal, RefusalKind, Request};
+use slp::{Expansion, Group, Refusal, RefusalKind, RegionalDay, Request};
 
-use crate::{fast, kept};
+use crate::{fast, holidays, kept};
 
 pub type Answer = Result<(), Refusal>;
+
+/// How many dates were written.
+pub type Listed = Result<usize, Refusal>;
 
 pub struct Calls {
     pub name: &'static str,
@@ -11,6 +14,7 @@ pub struct Calls {
     pub read: fn(&[u8], Group, &mut [u16]) -> Answer,
     pub write: fn(&[Group], &[u16], &mut [u8]) -> Answer,
     pub expand: fn(&Request, &mut [u32]) -> Result<Expansion, Refusal>,
+    pub holidays: fn(u32, &[RegionalDay], &mut [u32]) -> Listed,
 }
 
 pub static PROVED: Calls = Calls {
@@ -19,6 +23,7 @@ pub static PROVED: Calls = Calls {
     read: slp::read,
     write: slp::write,
     expand: slp::expand,
+    holidays: slp::holidays,
 };
 
 /// The reference: the plain safe Rust that an engineer would write from document 01, carry step by carry step. It takes codes;
@@ -39,11 +44,14 @@ pub static PLAIN: Calls = Calls {
             carry: made.carry,
         })
     },
+    holidays: |year, regional, list| {
+        reference::holidays(year, RegionalDay::choice(regional), list).map_err(refusal)
+    },
 };
 
 fn refusal(no: reference::Refusal) -> Refusal {
     Refusal {
-        kind: RefusalKind::from_number(no.number).expect("a call's question is one of 1 to 12"),
+        kind: RefusalKind::from_number(no.number).expect("a call's question"),
         place: no.place,
     }
 }
@@ -66,6 +74,7 @@ pub static FAST: Calls = Calls {
     read: fast::read,
     write: fast::write,
     expand: fast::expand,
+    holidays: holidays::holidays,
 };
 
 /// Expanding with tables kept for the whole call; the other calls are those of `FAST`.
@@ -75,6 +84,7 @@ pub static KEPT: Calls = Calls {
     read: fast::read,
     write: fast::write,
     expand: kept::expand,
+    holidays: holidays::holidays,
 };
 
 pub static ALL: [&Calls; 4] = [&PROVED, &PLAIN, &FAST, &KEPT];
@@ -87,6 +97,7 @@ pub struct Work {
     pub buffer: Vec<u8>,
     pub expanded: Option<Result<Expansion, Refusal>>,
     pub answered: Option<Answer>,
+    pub listed: Option<Listed>,
 }
 
 impl Work {
@@ -98,6 +109,7 @@ impl Work {
             buffer: vec![0xA5; buffer],
             expanded: None,
             answered: None,
+            listed: None,
         }
     }
 

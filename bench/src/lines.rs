@@ -1,5 +1,5 @@
 //! The lines of the table: what is measured.
-use slp::Group;
+use slp::{Group, RegionalDay, MOST_HOLIDAYS};
 
 use crate::calls::{Calls, Work};
 use crate::inputs::Inputs;
@@ -8,7 +8,7 @@ pub struct Line {
     /// Its name on the command line.
     pub name: &'static str,
     pub title: &'static str,
-    /// How many figures or values a call works on.
+    /// How many figures, values or dates a call works on.
     pub units: usize,
     pub run: fn(&Calls, &Inputs, &mut Work),
 }
@@ -18,7 +18,14 @@ fn expand(calls: &Calls, inputs: &Inputs, work: &mut Work, group: Group, first: 
     work.expanded = Some((calls.expand)(&request, &mut work.out));
 }
 
-pub static LINES: [Line; 10] = [
+/// The holidays of every year with all regional days, one behind the other.
+fn list_years(calls: &Calls, work: &mut Work) {
+    for (year, list) in (1996..=2099).zip(work.out.chunks_exact_mut(MOST_HOLIDAYS)) {
+        work.listed = Some((calls.holidays)(year, &RegionalDay::ALL, list));
+    }
+}
+
+pub static LINES: [Line; 11] = [
     Line {
         name: "h0-year",
         title: "expand H0, 366 days",
@@ -93,6 +100,12 @@ pub static LINES: [Line; 10] = [
                 &mut work.buffer,
             ));
         },
+    },
+    Line {
+        name: "holidays",
+        title: "holidays, 104 years",
+        units: 1_767,
+        run: |calls, _, work| list_years(calls, work),
     },
 ];
 

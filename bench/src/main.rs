@@ -4,6 +4,7 @@ mod agree;
 mod calls;
 mod days;
 mod fast;
+mod holidays;
 mod inputs;
 mod kept;
 mod lines;
@@ -16,13 +17,15 @@ mod tool;
 use std::hint::black_box;
 use std::process::ExitCode;
 
+use agree::Tally;
 use calls::{Calls, Work};
 use inputs::Inputs;
 use lines::Line;
 
 const USAGE: &str = "usage: bench                        compare all ways, then measure
        bench count WAY LINE TIMES   make the calls of a line and nothing else, for callgrind
-WAY is proved, plain, fast or kept; LINE is h0-year, g0-year, h0-longest, g0-longest, h0-day, h0-large, h0-exact, check, read or write.";
+WAY is proved, plain, fast or kept; LINE is h0-year, g0-year, h0-longest, g0-longest, h0-day, h0-large, h0-exact, check, read, write
+or holidays.";
 
 /// What the command line asks for.
 enum Task {
@@ -45,8 +48,8 @@ fn parse(words: &[String]) -> Option<Task> {
 fn measure() -> Result<(), String> {
     let inputs = Inputs::new();
     agree::on_timed_inputs(&inputs)?;
-    let [accepted, refused @ ..] = agree::on_random_requests()?;
-    println!("All ways agree on the timed inputs and on random ones: {accepted} calls accepted; refused by questions 1 to 12: {refused:?}\n");
+    let Tally { accepted, refused } = agree::on_random_requests()?;
+    println!("All ways agree on the timed inputs and on random ones: {accepted} calls accepted; refused, by question: {refused:?}\n");
     table::ratios(&inputs);
     table::tables_kept(&inputs);
     table::growth(&inputs);
