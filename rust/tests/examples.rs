@@ -150,7 +150,8 @@ impl Repository {
 
     fn set_up(&self) -> Output {
         let search = format!("{}:/usr/bin:/bin", self.root.join("commands").display());
-        let mut command = Command::new(self.root.join("examples/set_up"));
+        let mut command = Command::new("bash");
+        command.arg(self.root.join("examples/set_up"));
         command.env("PATH", search).output().expect("it runs")
     }
 
@@ -166,7 +167,7 @@ impl Repository {
     /// Makes everything in the crates' folder newer than what was built.
     fn change_a_crate(&self) {
         std::thread::sleep(std::time::Duration::from_millis(20));
-        fs::write(self.root.join("crates/changed.rt"), "").unwrap();
+        fs::write(self.root.join("crates/changed"), "").unwrap();
     }
 }
 
@@ -191,10 +192,7 @@ fn a_crate_that_changes_meanwhile_is_taken_for_new() {
     let repository = Repository::new("set_up_meanwhile");
     let built =
         "mkdir -p target/bin target/staticlib; touch target/bin/slp target/staticlib/libexports.a";
-    repository.command(
-        "rt",
-        &format!("sleep 0.02; touch crates/changed.rt; {built}"),
-    );
+    repository.command("rt", &format!("sleep 0.02; touch crates/changed; {built}"));
     let (calls, _) = repository.calls();
     assert_eq!(repository.calls().0, calls);
     assert!(calls.starts_with("rt check\n"), "{calls}");
@@ -236,14 +234,14 @@ fn a_missing_kit_is_said() {
 
 // The README.
 
-/// The README's commands for the tool that can be pasted as they stand: those whose files are in `examples`.
+/// The README's commands for the tool that can be pasted as they stand: all but those for a table of the reader's own, `G0.csv`.
 fn pasted() -> Vec<String> {
     let readme = stored_text("README.md");
     let lines = readme
         .lines()
         .filter_map(|line| line.strip_prefix("    dusterteal "));
-    let own = lines.filter(|line| line.contains("examples/"));
-    own.map(str::to_owned).collect()
+    let whole = lines.filter(|line| !line.contains(" G0.csv"));
+    whole.map(str::to_owned).collect()
 }
 
 #[test]
@@ -255,7 +253,7 @@ fn the_commands_of_the_readme_run() {
         .collect();
     assert_eq!(
         subcommands,
-        ["series", "sums", "days", "explain", "day", "check", "compare"]
+        ["series", "sums", "days", "explain", "day", "holidays", "check", "compare"]
     );
     for command in &commands {
         let words: Vec<&str> = command.split(' ').collect();
