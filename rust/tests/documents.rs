@@ -1,4 +1,4 @@
-//! The documents name what is there: the must-fail edits, functions and paths that README.md and docs/*.md cite exist, definitions
+//! The documents name what is there: the must-fail edits, functions and paths that README.md, docs/*.md and docs/changes/*.md cite exist, definitions
 //! stand in the files that docs/TRACE.md names, docs/TRACE.md cites every must-fail edit, and docs/ARCHITECTURE.md every crate.
 mod repository;
 
@@ -107,18 +107,21 @@ impl Cited {
     }
 }
 
+/// README.md and the documents below docs/, by their paths.
+fn documents() -> Vec<String> {
+    let mut documents = vec!["README.md".to_owned()];
+    for folder in ["docs", "docs/changes"] {
+        let mut names = names_in(&repository::path(folder));
+        names.retain(|name| name.ends_with(".md"));
+        documents.extend(names.iter().map(|name| format!("{folder}/{name}")));
+    }
+    documents
+}
+
 /// What `words` takes out of each line of the documents.
 fn cited(words: fn(&str) -> Vec<String>) -> Vec<Cited> {
-    let mut documents = names_in(&repository::path("docs"));
-    documents.retain(|name| name.ends_with(".md"));
-    let mut documents: Vec<String> = documents
-        .iter()
-        .map(|name| format!("docs/{name}"))
-        .collect();
-    documents.push("README.md".to_owned());
-
     let mut found = Vec::new();
-    for document in documents {
+    for document in documents() {
         let text = fs::read_to_string(repository::path(&document)).unwrap();
         for (line, text) in (1..).zip(text.lines()) {
             found.extend(words(text).into_iter().map(|word| Cited {

@@ -5,7 +5,7 @@ use crate::draw;
 use crate::expected::{dashed, expect_text, DAY_TYPES, SEASONS, WEEKDAYS};
 use crate::tool::{file, folder, run, stopped, warned, written};
 
-const HEADER: &str = "t;date;weekday;season;day type;why;values\n";
+pub const HEADER: &str = "t;date;weekday;season;day type;why;values\n";
 
 /// The days of 2000 that source document 000 lists for all of Germany.
 const EVERYWHERE: &str = "Datum;Feiertag
@@ -138,7 +138,7 @@ fn clock_changes_have_92_and_100_values() {
 }
 
 /// A row without its why, by the independent implementation.
-fn expected_row(day: &Day, holidays: &[u32]) -> String {
+pub fn expected_row(day: &Day, holidays: &[u32]) -> String {
     let answer = reference::day(day.date(), holidays).expect("a day of the span");
     let weekday = WEEKDAYS[answer.weekday as usize - 1];
     let season = SEASONS[answer.season as usize];
@@ -148,7 +148,7 @@ fn expected_row(day: &Day, holidays: &[u32]) -> String {
 }
 
 /// Rows without the sixth field, the why.
-fn without_why(text: &str) -> String {
+pub fn without_why(text: &str) -> String {
     let row = |row: &str| {
         let fields: Vec<&str> = row.split(';').collect();
         assert_eq!(fields.len(), 7, "{row}");

@@ -3,8 +3,8 @@ use crate::made::{FILE, TABLE};
 use crate::tool::{says, stopped, written};
 
 /// The subcommands that the first help has, and those for binary files.
-const USUAL: [&str; 7] = [
-    "series", "sums", "days", "explain", "day", "check", "compare",
+const USUAL: [&str; 8] = [
+    "series", "sums", "days", "explain", "day", "holidays", "check", "compare",
 ];
 const BINARY: [&str; 3] = ["pack", "unpack", "request"];
 
@@ -98,7 +98,7 @@ fn the_version_is_that_of_the_package() {
 }
 
 const SUBCOMMANDS: &str =
-    "they are series, sums, days, explain, day, check, compare, pack, unpack, request";
+    "they are series, sums, days, explain, day, holidays, check, compare, pack, unpack, request";
 
 #[test]
 fn what_is_no_subcommand_is_named() {
@@ -150,6 +150,11 @@ fn what_is_no_option_is_named_with_those_that_are() {
         ),
         ("days G0 2000 1000 --carry 1", "--carry", "its options are --profiles, --holidays, -o"),
         ("day 2000 --wide", "--wide", "its options are --holidays, -o"),
+        (
+            "holidays 2000 --holidays none",
+            "--holidays",
+            "its options are --regional, --state, -o",
+        ),
         ("pack -x", "-x", "its options are -o"),
         ("check a.csv -o b", "-o", "it has none"),
         (
@@ -173,6 +178,7 @@ fn missing_and_surplus_arguments_are_named() {
         ("explain G0 2000-01-01", "TIME is missing"),
         ("explain G0 2000-01-01 00:15", "KWH is missing"),
         ("day", "PERIOD is missing"),
+        ("holidays --state Bayern", "PERIOD is missing"),
         ("check", "FILE is missing"),
         ("compare", "FILE or OLD is missing"),
         ("compare a.csv", "GROUP or NEW is missing"),
@@ -195,6 +201,10 @@ fn missing_and_surplus_arguments_are_named() {
         (
             "day 2000 2001",
             "it takes PERIOD, and 2 words are given: \"2000\" \"2001\"; a period is one word, as 2026-01-15..2026-02-14",
+        ),
+        (
+            "holidays 2000 Bayern",
+            "it takes PERIOD, and 2 words are given: \"2000\" \"Bayern\"; a period is one word, as 2026-01-15..2026-02-14",
         ),
         (
             "unpack a.slp G0 b.csv",
@@ -236,7 +246,7 @@ fn options_that_are_given_twice_or_without_a_value_are_named() {
 #[test]
 fn profiles_and_holidays_must_be_named() {
     let profiles = "--profiles is missing: name a profile file or CSV tables";
-    let holidays = "--holidays is missing: name a file with one date a line, or say none";
+    let holidays = "--holidays is missing: it takes german, german:NAME,.. with regional days, a file with one date a line, or none";
     for name in ["series", "sums", "days", "request"] {
         let line = |options: &str| format!("{name} G0 2000 1000{options}");
         expect_not_understood(&line(""), profiles);
@@ -329,6 +339,7 @@ fn texts_that_are_no_period_are_named() {
             &["series", "G0", period, "1000"][..],
             &["request", "G0", period, "1000"],
             &["day", period],
+            &["holidays", period],
         ] {
             stopped(line, 2, &[&format!("dusterteal: {}: {what}\n", line[0])]);
         }

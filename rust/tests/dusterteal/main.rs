@@ -13,6 +13,8 @@ mod drawn;
 mod expected;
 mod explain;
 mod files;
+mod german;
+mod holiday_list;
 mod holidays;
 mod joining;
 mod made;

@@ -5,6 +5,8 @@ use std::process::{Command, Stdio};
 use crate::arguments::{Arguments, Choice};
 use crate::failure::Failure;
 use crate::files::Output;
+use crate::holidays::Source;
+use crate::regional;
 use crate::run::{Run, Series};
 
 /// Where the account of a series goes.
@@ -30,10 +32,7 @@ pub fn text(
     for source in &run.profiles.sources {
         text += &line("profiles", &source.name, &source.bytes)?;
     }
-    text += &match &run.holidays.source {
-        Some(source) => line("holidays", &source.name, &source.bytes)?,
-        None => "holidays: none\n".to_owned(),
-    };
+    text += &holidays(run)?;
     text += &format!(
         "run: from {} with carry {} / 40000 Wh\n",
         run.since, run.carry
@@ -49,6 +48,28 @@ pub fn text(
     );
     text += &line("output", &output.name(), &output.bytes)?;
     Ok(text)
+}
+
+/// The list of holidays: the file, or how it was worked out.
+fn holidays(run: &Run) -> Result<String, Failure> {
+    let regional = match &run.holidays.source {
+        Source::Nowhere => return Ok("holidays: none\n".to_owned()),
+        Source::File(source) => return line("holidays", &source.name, &source.bytes),
+        Source::German(regional) => regional,
+    };
+    let (first, last) = (run.since.year(), run.period.last.year());
+    let years = match first == last {
+        true => first.to_string(),
+        false => format!("{first} to {last}"),
+    };
+    let regional = match &regional[..] {
+        [] => "no regional ones".to_owned(),
+        days => regional::names(days),
+    };
+    let count = run.holidays.dates(run.whole()).len();
+    Ok(format!(
+        "holidays: german, {count} dates of {years} worked out by the proved call: the days of all of Germany, and {regional}\n"
+    ))
 }
 
 /// The tool's own file, which tells one build from another.

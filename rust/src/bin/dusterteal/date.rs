@@ -183,6 +183,11 @@ impl Period {
         days.take_while(move |date| *date <= self.last)
     }
 
+    /// Whether it begins with a year and ends with one.
+    pub fn is_whole_years(self) -> bool {
+        self.first.0 % 10_000 == 101 && self.last.0 % 10_000 == 1231
+    }
+
     /// Its years.
     pub fn years(self) -> impl Iterator<Item = u32> {
         self.first.year()..=self.last.year()

@@ -7,7 +7,7 @@ use crate::arguments::{self, Grammar};
 use crate::date::{Date, Period};
 use crate::failure::Failure;
 use crate::files::{Made, Output};
-use crate::holidays::Holidays;
+use crate::holidays::{Holidays, Wanted};
 use crate::names;
 use crate::run::{self, HOLIDAYS, OUTPUT};
 
@@ -25,8 +25,9 @@ pub fn make(given: &[OsString]) -> Result<Made, Failure> {
     let arguments = arguments::parse(&GRAMMAR, given)?;
     let word = arguments.word(0).unwrap_or_default();
     let period = run::period(&GRAMMAR, &word)?;
-    let holidays = Holidays::load(arguments.value("--holidays").unwrap_or(OsStr::new("none")))?;
-    expect_period(&word, period)?;
+    let holidays = arguments.value("--holidays").unwrap_or(OsStr::new("none"));
+    let holidays = Holidays::load(&Wanted::parse(&GRAMMAR, holidays)?, period)?;
+    run::expect_period(&word, period)?;
     holidays.warn_of_empty_years(period);
     let mut text = String::from("t;date;weekday;season;day type;why;values\n");
     for date in period.days() {
@@ -35,34 +36,16 @@ pub fn make(given: &[OsString]) -> Result<Made, Failure> {
     Ok(Made::of(
         Output::text(arguments.target(), text),
         holidays
-            .source
-            .map(|source| source.path)
+            .file()
+            .map(|source| source.path.clone())
             .into_iter()
             .collect(),
     ))
 }
 
-/// Question 7 of both dates, and their order. A calendar may have any length.
-fn expect_period(word: &str, period: Period) -> Result<(), Failure> {
-    for (place, date) in [period.first, period.last].into_iter().enumerate() {
-        if !date.is_real() {
-            let why = date.why_not_real();
-            return Err(Failure::Refused(format!(
-                "PERIOD {word}: {why} (question 7, place {place})"
-            )));
-        }
-    }
-    match period.first > period.last {
-        true => Err(Failure::Refused(format!(
-            "PERIOD {word}: {} (question 8, place 0)",
-            run::period_fault(period)
-        ))),
-        false => Ok(()),
-    }
-}
-
 fn row(date: Date, holidays: &Holidays) -> Result<String, Failure> {
-    let day = slp::day(date.0, holidays.dates()).map_err(|refusal| refused(refusal, holidays))?;
+    let listed = holidays.dates(Period::day(date));
+    let day = slp::day(date.0, listed).map_err(|refusal| refused(refusal, holidays))?;
     let (weekday, season) = (names::weekday(&day), names::season(day.season));
     let (day_type, why) = (
         names::day_type(day.day_type),

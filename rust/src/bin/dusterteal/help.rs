@@ -1,23 +1,27 @@
 //! What the tool says of itself.
+use slp::RegionalDay;
+
+use crate::regional;
 
 /// What it says first.
 pub const OVERVIEW: &str = "dusterteal: quarter-hour series from the VDEW load profiles
 
     dusterteal SUBCOMMAND ARGUMENTS OPTIONS
 
-  series   the figures of a period as CSV
-  sums     counts and energy of its days, months, quarters or years as CSV
-  days     a line for each day, as the program slp prints it
-  explain  how one figure comes about
-  day      the calendar of a period: t, weekday, season, day type and why
-  check    whether a profile file or a table is accepted, and whether it is likely to be right
-  compare  whether two groups or two files have the same values, or which cells differ
+  series    the figures of a period as CSV
+  sums      counts and energy of its days, months, quarters or years as CSV
+  days      a line for each day, as the program slp prints it
+  explain   how one figure comes about
+  day       the calendar of a period: t, weekday, season, day type and why
+  holidays  the German holidays of a period, with the regional days of your choice, as a list
+  check     whether a profile file or a table is accepted, and whether it is likely to be right
+  compare   whether two groups or two files have the same values, or which cells differ
 
 `dusterteal SUBCOMMAND --help` says what each takes; `dusterteal --help all` names three more, for binary files.
 `dusterteal --version` prints the version.
 
 For example:
-    dusterteal series G0 2026-Q2 3500 --since 2026-01-01 --profiles G0.csv --holidays holidays.txt -o series.csv
+    dusterteal series G0 2026-Q2 3500 --since 2026-01-01 --profiles G0.csv --holidays german -o series.csv
 
 Exit status: 0 done, 1 refused or not accepted, 2 not understood, 3 could not read or write.
 ";
@@ -43,9 +47,21 @@ const WORDS_OF_EXPLAIN: &str = "
   KWH     the yearly use, a whole number from 0 to 1000000000
 ";
 
+/// What the option `--holidays` takes, in a message.
+pub const HOLIDAYS: &str =
+    "german, german:NAME,.. with regional days, a file with one date a line, or none";
+
 const SOURCES: &str = "
   --profiles FILE..     a profile file, or CSV tables, one for each group
-  --holidays FILE|none  a file with one date a line, with or without a name behind it; none where there are none
+";
+
+const LISTS: &str = "  --holidays WHICH      german     the days of all of Germany, worked out
+                        german:NAME,.. or german:all
+                                   these and regional days, which `dusterteal holidays --help` names
+                        FILE       a file with one date a line, with or without a name behind it; one that is called german
+                                   or none is ./german, ./none
+                        none       no day
+                        24 and 31 December need no list: they count as Saturday, unless they are Sundays.
 ";
 
 const BEGINNING: &str = "  --since DATE          begin the run on DATE and write PERIOD alone, so that parts join to the whole
@@ -71,6 +87,7 @@ pub fn of(name: &str) -> Option<String> {
         "days" => Some(days()),
         "explain" => Some(explain()),
         "day" => Some(day()),
+        "holidays" => Some(holidays()),
         "check" => Some(CHECK.to_owned()),
         "compare" => Some(format!("{COMPARE}{DECIMALS}{FILES}")),
         "pack" => Some(format!("{PACK}{FILES}")),
@@ -86,8 +103,11 @@ fn run(usage: &str, does: &str, options: &[&str]) -> String {
 }
 
 fn run_of(usage: &str, does: &str, words: &str, options: &[&str]) -> String {
-    let usage = format!("dusterteal {usage} --profiles FILE.. --holidays FILE|none");
-    format!("{usage}\n\n{does}\n{words}{SOURCES}{}", options.concat())
+    let usage = format!("dusterteal {usage} --profiles FILE.. --holidays german|FILE|none");
+    format!(
+        "{usage}\n\n{does}\n{words}{SOURCES}{LISTS}{}",
+        options.concat()
+    )
 }
 
 fn series() -> String {
@@ -142,11 +162,36 @@ document 01. DATE, TIME and offset are those of a line of the series.";
 
 fn day() -> String {
     format!(
-        "dusterteal day PERIOD [--holidays FILE|none]
+        "dusterteal day PERIOD [--holidays german|FILE|none]
 
-Writes the calendar of a period as CSV: t;date;weekday;season;day type;why;values. PERIOD is as in `series`, of any length.
+Writes the calendar of a period as CSV: t;date;weekday;season;day type;why;values. PERIOD is as in `series`, of any length. Without
+--holidays no day is listed.
 
-  --holidays FILE|none  a file with one date a line, with or without a name behind it; none without it
+{LISTS}{FILES}"
+    )
+}
+
+fn holidays() -> String {
+    let names: String = RegionalDay::ALL
+        .map(|day| {
+            format!(
+                "\n                          {:<17}{}",
+                regional::word(day),
+                day.german_name()
+            )
+        })
+        .concat();
+    format!(
+        "dusterteal holidays PERIOD [--regional NAME,..] [--state STATE]
+
+Writes the German holidays of a period, one date a line with its name: the eleven days that all of Germany keeps, and the regional
+days that are asked for. PERIOD is as in `series`, of any length in 1996 to 2099. `--holidays` reads the list; to have the same days
+in a run without a file, say --holidays german or --holidays german:NAME,.. there. 24 and 31 December are not listed: they
+count as Saturday by themselves, unless they are Sundays.
+
+  --regional NAME,..    regional days, or all, or none, as without it; a name is in English or German, with hyphens for blanks:{names}
+  --state STATE         the regional days of a state, by its name or code (Bayern, Bavaria, BY), as source document 000 has them for
+                        the year 2000; days of some communities alone are left out, and the list says which: --regional adds them
 {FILES}"
     )
 }

@@ -1,15 +1,78 @@
-//! The list of holidays.
-use std::ffi::OsStr;
+//! The list of holidays: of a file, or worked out.
+use std::ffi::{OsStr, OsString};
 
+use slp::RegionalDay;
+
+use crate::arguments::Grammar;
 use crate::date::{self, Date, Period};
 use crate::failure::{warn, Failure};
 use crate::files::Input;
+use crate::german::{self, Holiday};
+use crate::states::State;
 use crate::text::{self, quoted};
+use crate::{help, regional};
+
+/// What the option `--holidays` asks for.
+#[derive(Debug, Clone, PartialEq, Eq)]
+pub enum Wanted {
+    /// No list.
+    Nothing,
+    /// The German days, with these regional ones.
+    German(Vec<RegionalDay>),
+    /// The list in a file.
+    File(OsString),
+}
+
+impl Wanted {
+    /// What a value of the option asks for: `none`, `german`, `german:NAME,..`, or else a file.
+    pub fn parse(grammar: &Grammar, value: &OsStr) -> Result<Wanted, Failure> {
+        let text = value.to_string_lossy();
+        let (word, names) = match text.split_once(':') {
+            Some((word, names)) => (word, Some(names)),
+            None => (&*text, None),
+        };
+        match (word.to_ascii_lowercase().as_str(), names) {
+            ("none", None) => Ok(Wanted::Nothing),
+            ("german", None) => Ok(Wanted::German(Vec::new())),
+            ("german", Some(names)) => regional::parse(names).map(Wanted::German).map_err(|what| {
+                let hint = hint(&text, names);
+                grammar.fault(&format!("--holidays: {what}{hint}"))
+            }),
+            _ => Ok(Wanted::File(value.to_owned())),
+        }
+    }
+}
+
+/// What may be meant by a value whose names are no regional days.
+fn hint(value: &str, names: &str) -> String {
+    match State::parse(names) {
+        Ok(state) => of_state(state),
+        Err(_) => format!("; a file of this name is ./{value}"),
+    }
+}
+
+fn of_state(state: &State) -> String {
+    let name = state.name;
+    format!("; the list of a state is made by `dusterteal holidays YEAR --state {name}`")
+}
+
+/// Where a list comes from.
+#[derive(Debug, Clone, Default, PartialEq, Eq)]
+pub enum Source {
+    /// There is none.
+    #[default]
+    Nowhere,
+    /// It is worked out by the proved call: the German days with these regional ones.
+    German(Vec<RegionalDay>),
+    /// It was read from a file.
+    File(Input),
+}
 
 /// A date of the list.
 #[derive(Debug, Clone, PartialEq, Eq)]
 struct Listed {
     date: Date,
+    /// The line of the file, from 1; 0 where the list is worked out.
     line: usize,
     name: String,
 }
@@ -17,19 +80,37 @@ struct Listed {
 /// The dates of a list, in rising order as far as it goes.
 #[derive(Debug, Clone, Default, PartialEq, Eq)]
 pub struct Holidays {
-    /// The file that the list was read from, where there is one.
-    pub source: Option<Input>,
+    /// Where the list comes from.
+    pub source: Source,
     listed: Vec<Listed>,
     dates: Vec<u32>,
 }
 
 impl Holidays {
-    /// The list that the option `--holidays` names; `none` is the empty one.
-    pub fn load(path: &OsStr) -> Result<Holidays, Failure> {
-        if path.eq_ignore_ascii_case("none") {
-            return Ok(Holidays::default());
+    /// The list that is wanted for a run.
+    pub fn load(wanted: &Wanted, run: Period) -> Result<Holidays, Failure> {
+        match wanted {
+            Wanted::Nothing => Ok(Holidays::default()),
+            Wanted::German(regional) => Ok(Holidays::worked_out(regional, run)),
+            Wanted::File(path) => Holidays::read(path),
         }
-        let source = Input::read(path).map_err(or_none)?;
+    }
+
+    /// The German days of all years of a run. A year outside the span has none: question 7 refuses its dates.
+    fn worked_out(regional: &[RegionalDay], run: Period) -> Holidays {
+        let of_year = |year| german::of_year(year, regional).unwrap_or_default();
+        let listed = run.years().flat_map(of_year);
+        let listed = listed.map(|Holiday { date, name }| Listed {
+            date,
+            line: 0,
+            name,
+        });
+        Holidays::of(Source::German(regional.to_vec()), listed.collect())
+    }
+
+    /// The list of a file.
+    fn read(path: &OsStr) -> Result<Holidays, Failure> {
+        let source = Input::read(path).map_err(|failure| or_else(failure, path))?;
         let refused = |what: String| Failure::Refused(format!("{}{what}", source.name));
         let text = text::decode(&source.bytes).map_err(|what| {
             refused(format!(
@@ -44,10 +125,10 @@ impl Holidays {
             ));
             listed.sort_by_key(|listed| listed.date);
         }
-        Ok(Holidays::of(Some(source), listed))
+        Ok(Holidays::of(Source::File(source), listed))
     }
 
-    fn of(source: Option<Input>, listed: Vec<Listed>) -> Holidays {
+    fn of(source: Source, listed: Vec<Listed>) -> Holidays {
         Holidays {
             dates: listed.iter().map(|listed| listed.date.0).collect(),
             listed,
@@ -55,20 +136,36 @@ impl Holidays {
         }
     }
 
-    /// The dates, as the proved calls take them.
-    pub fn dates(&self) -> &[u32] {
-        &self.dates
+    /// The dates, as a proved call for some days takes them: the whole list of a file, which question 9 is asked of; of the days
+    /// that are worked out those of the call's own years, since those of a long run may be more than 400.
+    pub fn dates(&self, days: Period) -> &[u32] {
+        if !matches!(self.source, Source::German(_)) {
+            return &self.dates;
+        }
+        let before = |year: u32| self.dates.partition_point(|date| date / 10_000 < year);
+        let end = before(days.last.year() + 1);
+        &self.dates[before(days.first.year()).min(end)..end]
+    }
+
+    /// The file that the list was read from, where there is one.
+    pub fn file(&self) -> Option<&Input> {
+        match &self.source {
+            Source::File(input) => Some(input),
+            Source::Nowhere | Source::German(_) => None,
+        }
     }
 
     /// The name behind a listed date, which may be empty.
     pub fn name_of(&self, date: Date) -> Option<&str> {
-        let found = self.listed.iter().find(|listed| listed.date == date)?;
-        Some(&found.name)
+        let found = self
+            .listed
+            .binary_search_by_key(&date, |listed| listed.date);
+        found.ok().map(|at| self.listed[at].name.as_str())
     }
 
-    /// Warns of the years of a period that have no listed date, where there is a list.
+    /// Warns of the years of a period that have no listed date, where the list is a file's.
     pub fn warn_of_empty_years(&self, period: Period) {
-        let Some(source) = &self.source else { return };
+        let Some(source) = self.file() else { return };
         let years = self.empty_years(period);
         if !years.is_empty() {
             let years = in_words(&years);
@@ -86,9 +183,8 @@ impl Holidays {
 
     /// What is wrong with the entry that question 9 names.
     pub fn fault_at(&self, index: usize) -> String {
-        let source = self.source.as_ref().map_or("", |source| &source.name);
-        let Some(listed) = self.listed.get(index) else {
-            return format!("{source} has no date number {}", index + 1);
+        let (Some(source), Some(listed)) = (self.file(), self.listed.get(index)) else {
+            return "fault of this tool: a list of its own is refused".to_owned();
         };
         let before = index.checked_sub(1).map(|before| &self.listed[before]);
         let what = match before {
@@ -100,15 +196,19 @@ impl Holidays {
             Some(before) => format!("{} stands in line {} already", listed.date, before.line),
             None => format!("{} is not allowed", listed.date),
         };
-        format!("{source}, line {}: {what}", listed.line)
+        format!("{}, line {}: {what}", source.name, listed.line)
     }
 }
 
-/// Where the list can't be read: `none` may be meant.
-fn or_none(failure: Failure) -> Failure {
+/// Where the list can't be read: something else may be meant.
+fn or_else(failure: Failure, path: &OsStr) -> Failure {
     match failure {
         Failure::Unusable(what) => {
-            Failure::Unusable(format!("{what}; --holidays takes a file, or none"))
+            let state = State::parse(&path.to_string_lossy()).map_or(String::new(), of_state);
+            Failure::Unusable(format!(
+                "{what}; --holidays takes {}{state}",
+                help::HOLIDAYS
+            ))
         }
         other => other,
     }
@@ -273,13 +373,14 @@ mod tests {
             name: "list.txt".into(),
             bytes: Vec::new(),
         };
-        Holidays::of(Some(source), parse(text).unwrap())
+        Holidays::of(Source::File(source), parse(text).unwrap())
     }
 
     /// The place of question 9, found by the proved call, and the words for it.
     fn fault_of(text: &str) -> String {
         let holidays = holidays(text);
-        let refusal = slp::day(20_000_101, holidays.dates()).unwrap_err();
+        let day = Period::day(Date(20_000_101));
+        let refusal = slp::day(20_000_101, holidays.dates(day)).unwrap_err();
         assert_eq!(refusal.kind, slp::RefusalKind::BadHoliday);
         holidays.fault_at(refusal.place)
     }
@@ -313,5 +414,96 @@ mod tests {
             in_words(&[1999, 2001, 2002, 2003, 2005, 2006]),
             "1999, 2001 to 2003, 2005 to 2006"
         );
+    }
+
+    const GRAMMAR: Grammar = Grammar::of_run("series", &[]);
+
+    fn wanted(text: &str) -> Result<Wanted, String> {
+        Wanted::parse(&GRAMMAR, OsStr::new(text)).map_err(|failure| failure.to_string())
+    }
+
+    #[test]
+    fn the_option_asks_for_nothing_for_german_days_or_for_a_file() {
+        use RegionalDay::{AllSaints, Epiphany};
+        assert_eq!(wanted("none"), Ok(Wanted::Nothing));
+        for text in ["german", "German", "german:none"] {
+            assert_eq!(wanted(text), Ok(Wanted::German(vec![])), "{text}");
+        }
+        assert_eq!(
+            wanted("german:Allerheiligen,epiphany"),
+            Ok(Wanted::German(vec![Epiphany, AllSaints]))
+        );
+        assert_eq!(
+            wanted("GERMAN:ALL"),
+            Ok(Wanted::German(RegionalDay::ALL.into()))
+        );
+        for path in ["./german", "none:1", "german.txt", "./german:x", "-", ""] {
+            assert_eq!(wanted(path), Ok(Wanted::File(path.into())), "{path}");
+        }
+    }
+
+    #[test]
+    fn other_german_days_are_not_understood() {
+        let fault = wanted("german:easter").unwrap_err();
+        assert!(
+            fault.starts_with(
+                "series: --holidays: \"easter\" is no regional day: they are epiphany ("
+            ) && fault.contains("; a file of this name is ./german:easter\n"),
+            "{fault}"
+        );
+        let fault = wanted("german:bavaria").unwrap_err();
+        let hint = "; the list of a state is made by `dusterteal holidays YEAR --state Bayern`\n";
+        assert!(fault.contains(hint), "{fault}");
+    }
+
+    fn german(run: &str, regional: &[RegionalDay]) -> Holidays {
+        Holidays::worked_out(regional, Period::parse(run).unwrap())
+    }
+
+    /// Every call has the days of its own years, however long the run is.
+    #[test]
+    fn a_call_is_handed_the_days_of_its_own_years() {
+        let list = german("1996..2099", &RegionalDay::ALL);
+        assert_eq!(list.dates.len(), 17 * 104 - 1);
+        for (days, count) in [
+            ("2000", 17),
+            ("2000-06-22", 17),
+            ("1996-01-01", 17),
+            ("2099-12-31", 17),
+            ("2007-12-31..2009-01-01", 50),
+            ("2000..2003", 68),
+            ("2003-12-31..2001-01-01", 0),
+        ] {
+            let days = Period::parse(days).unwrap();
+            let dates = list.dates(days);
+            assert_eq!(dates.len(), count, "{days:?}");
+            let own = |date: &u32| days.years().any(|year| date / 10_000 == year);
+            assert!(dates.iter().all(own), "{days:?}");
+            assert!(slp::day(20_000_101, dates).is_ok());
+        }
+    }
+
+    #[test]
+    fn a_year_outside_the_span_lists_nothing() {
+        assert_eq!(german("1990..1995", &[]).dates, []);
+        assert_eq!(german("2098..2105", &[]).dates.len(), 22);
+        assert_eq!(german("2005..2000", &[]).dates, []);
+    }
+
+    #[test]
+    fn a_worked_out_day_has_its_name() {
+        let list = german("2007..2009", &[RegionalDay::CorpusChristi]);
+        let name = |date| list.name_of(Date(date));
+        assert_eq!(name(20_080_501), Some("May Day and Ascension Day"));
+        assert_eq!(name(20_080_522), Some("Corpus Christi"));
+        assert_eq!(name(20_080_815), None);
+    }
+
+    /// It never is, which is proved: the words are for a fault of the tool.
+    #[test]
+    fn a_refused_list_of_its_own_is_a_fault() {
+        let fault = "fault of this tool: a list of its own is refused";
+        assert_eq!(german("2000", &[]).fault_at(0), fault);
+        assert_eq!(Holidays::default().fault_at(0), fault);
     }
 }

@@ -12,16 +12,20 @@ mod days;
 mod explain;
 mod failure;
 mod files;
+mod german;
 mod help;
+mod holiday_list;
 mod holidays;
 mod names;
 mod pack;
 mod plausibility;
 mod profiles;
 mod quarter_hours;
+mod regional;
 mod request;
 mod run;
 mod series;
+mod states;
 mod sums;
 mod table;
 mod text;
@@ -36,12 +40,13 @@ use files::Made;
 type Maker = fn(&[OsString]) -> Result<Made, Failure>;
 
 /// The subcommands.
-const SUBCOMMANDS: [(&str, Maker); 10] = [
+const SUBCOMMANDS: [(&str, Maker); 11] = [
     ("series", series::make),
     ("sums", sums::make),
     ("days", days::make),
     ("explain", explain::make),
     ("day", day::make),
+    ("holidays", holiday_list::make),
     ("check", check::make),
     ("compare", compare::make),
     ("pack", pack::pack),
@@ -136,6 +141,7 @@ mod tests {
             &days::GRAMMAR,
             &explain::GRAMMAR,
             &day::GRAMMAR,
+            &holiday_list::GRAMMAR,
             &check::GRAMMAR,
             &compare::GRAMMAR,
             &pack::PACK,

@@ -4,29 +4,26 @@ use slp::{Group, Request, GROUP_VALUES};
 use crate::amounts::Decimal;
 use crate::clock::QUARTERS;
 use crate::failure::warn;
+use crate::german;
 use crate::profiles::Profiles;
 use crate::table::DAYS;
 
-/// The eleven days that all of Germany keeps, as source document 000 lists them in step 4 for the year 2000.
-const PAPER_HOLIDAYS: [u32; 11] = [
-    20_000_101, 20_000_421, 20_000_423, 20_000_424, 20_000_501, 20_000_601, 20_000_611, 20_000_612,
-    20_001_003, 20_001_225, 20_001_226,
-];
-
-/// The year of those days.
+/// The year whose holidays source document 000 lists in step 4.
 pub const PAPER_YEAR: u32 = 2000;
 
 /// What a year should have: 1,000 kWh, in Wh.
 const NORMAL: u64 = 1_000_000;
 
-/// The energy of the paper's year in Wh for 1,000 kWh a year, where the file is accepted and has the group.
+/// The energy of the paper's year in Wh for 1,000 kWh a year, with the holidays of all of Germany, where the file is accepted and has
+/// the group.
 pub fn yearly_energy(profiles: &Profiles, group: Group) -> Option<u64> {
+    let holidays = german::dates(PAPER_YEAR, &[]).ok()?;
     let request = Request {
         file: &profiles.file,
         group,
         first: 10_000 * PAPER_YEAR + 101,
         last: 10_000 * PAPER_YEAR + 1231,
-        holidays: &PAPER_HOLIDAYS,
+        holidays: &holidays,
         yearly: 1000,
         carry: 0,
     };

@@ -22,7 +22,7 @@ pub fn make(given: &[OsString]) -> Result<Made, Failure> {
 /// The request of an accepted run: document 01, "The program". Its list has at most 400 dates, and its profile file at most 11
 /// groups, so it is shorter than the 65,536 bytes that the program takes.
 pub fn encode(run: &Run) -> Vec<u8> {
-    let holidays = run.holidays.dates();
+    let holidays = run.holidays.dates(run.period);
     let mut bytes = vec![run.group.code()];
     for number in [run.period.first.0, run.period.last.0, run.yearly] {
         bytes.extend(number.to_be_bytes());

@@ -6,7 +6,8 @@ use slp::{Expansion, Group, Refusal, RefusalKind, Request};
 use crate::arguments::{Arguments, Choice, Grammar};
 use crate::date::{self, Date, Period, PERIOD_FORMS};
 use crate::failure::Failure;
-use crate::holidays::Holidays;
+use crate::help;
+use crate::holidays::{Holidays, Wanted};
 use crate::plausibility;
 use crate::profiles::Profiles;
 use crate::text::quoted;
@@ -96,24 +97,18 @@ impl Run {
             Some(text) => date(grammar, "--since", &text)?,
             None => period.first,
         };
-        let profiles = arguments.values("--profiles");
-        if profiles.is_empty() {
-            return Err(grammar.fault("--profiles is missing: name a profile file or CSV tables"));
-        }
-        let Some(holidays) = arguments.value("--holidays") else {
-            return Err(grammar
-                .fault("--holidays is missing: name a file with one date a line, or say none"));
+        let (profiles, holidays) = sources(grammar, arguments)?;
+        let whole = Period {
+            first: since,
+            ..period
         };
-        if profiles.iter().filter(|path| *path == "-").count() + usize::from(holidays == "-") > 1 {
-            return Err(grammar.fault("standard input can be read only once"));
-        }
         let run = Run {
             group: words.group,
             period,
             since,
             yearly,
             carry,
-            holidays: Holidays::load(holidays)?,
+            holidays: Holidays::load(&holidays, whole)?,
             profiles: Profiles::load(profiles)?,
             said: Said {
                 period: words.period_said,
@@ -126,12 +121,16 @@ impl Run {
         Ok(run)
     }
 
-    fn warn(&self) {
-        let period = Period {
+    /// All of its days: those before the period too.
+    pub fn whole(&self) -> Period {
+        Period {
             first: self.since,
             ..self.period
-        };
-        self.holidays.warn_of_empty_years(period);
+        }
+    }
+
+    fn warn(&self) {
+        self.holidays.warn_of_empty_years(self.whole());
         plausibility::warn_of_energy(&self.profiles, self.group);
     }
 
@@ -142,7 +141,7 @@ impl Run {
             group: self.group,
             first: days.first.0,
             last: days.last.0,
-            holidays: self.holidays.dates(),
+            holidays: self.holidays.dates(days),
             yearly: self.yearly,
             carry,
         }
@@ -231,13 +230,52 @@ impl Run {
 
     /// The paths of the files that it was read from.
     pub fn read(&self) -> Vec<OsString> {
-        let sources = self.profiles.sources.iter().chain(&self.holidays.source);
+        let sources = self.profiles.sources.iter().chain(self.holidays.file());
         sources.map(|source| source.path.clone()).collect()
     }
 
     /// What the day enquiry says of a day of the run.
     pub fn day(&self, date: Date) -> Result<slp::Day, Failure> {
-        slp::day(date.0, self.holidays.dates()).map_err(|refusal| self.refused(refusal))
+        let holidays = self.holidays.dates(Period::day(date));
+        slp::day(date.0, holidays).map_err(|refusal| self.refused(refusal))
+    }
+}
+
+/// The paths of the profiles, and the list of holidays that is wanted.
+fn sources<'a>(
+    grammar: &Grammar,
+    arguments: &'a Arguments,
+) -> Result<(&'a [OsString], Wanted), Failure> {
+    let profiles = arguments.values("--profiles");
+    if profiles.is_empty() {
+        return Err(grammar.fault("--profiles is missing: name a profile file or CSV tables"));
+    }
+    let Some(holidays) = arguments.value("--holidays") else {
+        let what = format!("--holidays is missing: it takes {}", help::HOLIDAYS);
+        return Err(grammar.fault(&what));
+    };
+    if profiles.iter().filter(|path| *path == "-").count() + usize::from(holidays == "-") > 1 {
+        return Err(grammar.fault("standard input can be read only once"));
+    }
+    Ok((profiles, Wanted::parse(grammar, holidays)?))
+}
+
+/// Question 7 of both dates of a period, and their order, where a period may have any length.
+pub fn expect_period(word: &str, period: Period) -> Result<(), Failure> {
+    for (place, date) in [period.first, period.last].into_iter().enumerate() {
+        if !date.is_real() {
+            let why = date.why_not_real();
+            return Err(Failure::Refused(format!(
+                "PERIOD {word}: {why} (question 7, place {place})"
+            )));
+        }
+    }
+    match period.first > period.last {
+        true => Err(Failure::Refused(format!(
+            "PERIOD {word}: {} (question 8, place 0)",
+            period_fault(period)
+        ))),
+        false => Ok(()),
     }
 }
 

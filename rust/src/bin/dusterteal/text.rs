@@ -80,6 +80,21 @@ pub fn content(text: &str) -> impl Iterator<Item = (usize, &str)> {
         .filter(|(_, line)| !line.is_empty() && !line.starts_with('#'))
 }
 
+/// A name as names are compared: its letters and digits alone, in small letters, with German ones spelt out.
+pub fn plain(text: &str) -> String {
+    let mut plain = String::new();
+    for c in text.to_lowercase().chars().filter(|c| c.is_alphanumeric()) {
+        match c {
+            'ä' => plain += "ae",
+            'ö' => plain += "oe",
+            'ü' => plain += "ue",
+            'ß' => plain += "ss",
+            c => plain.push(c),
+        }
+    }
+    plain
+}
+
 /// A text in quotes, of a long one the beginning.
 pub fn quoted(text: &str) -> String {
     const LONGEST: usize = 40;
@@ -177,6 +192,13 @@ mod tests {
         let lines = |text| content(text).collect::<Vec<_>>();
         assert_eq!(lines(""), []);
         assert_eq!(lines("a\r\n \r\n #b\r\n c \n#"), [(1, "a"), (4, "c")]);
+    }
+
+    #[test]
+    fn names_are_compared_by_their_letters() {
+        assert_eq!(plain("Buß- und Bettag"), "bussundbettag");
+        assert_eq!(plain(" ÜBER_Öl's 3ä. "), "ueberoels3ae");
+        assert_eq!(plain("-, "), "");
     }
 
     #[test]
