@@ -113,7 +113,7 @@ struct slp_response_report {
 struct slp_holidays_report {
     uint32_t number;
     size_t place;
-    size_t length; /* dates written, 10 to 17 */
+    size_t length; /* dates written, 10 to 17; 0 where refused */
 };
 
 /* Whether `file` is a profile file that has `group`. Questions 1 to 6. Writes nothing. */
@@ -171,9 +171,10 @@ struct slp_response_report slp_respond(const uint8_t *input, size_t input_length
  * Writes the German holidays of `year` into the first entries of `list` and keeps those beyond: the eleven days that all of
  * Germany keeps (New Year, Good Friday, Easter Sunday and Monday, 1 May, Ascension Day, Whit Sunday and Monday, 3 October, 25 and
  * 26 December), and the regional days whose bit is set in `choice`: 0 Epiphany, 1 Corpus Christi, 2 Assumption Day, 3 Reformation
- * Day, 4 All Saints' Day, 5 Day of Repentance, so that 17 is Epiphany and All Saints' Day. The dates rise, and one that is met twice (1 May 2008, Ascension Day too) is listed
- * once, so slp_day and slp_expand take the list. 24 and 31 December are not in it: they count as Saturday by themselves, where they
- * are no Sundays. Questions 14, 15 and 16 (place: the entries needed; SLP_MOST_HOLIDAYS is always enough).
+ * Day, 4 All Saints' Day, 5 Day of Repentance, so that 1 + 16 is Epiphany and All Saints' Day. The dates rise, and one that is
+ * met twice (1 May 2008, Ascension Day too) is listed once, so slp_day and slp_expand take the list. 24 and 31 December are not in
+ * it: they count as Saturday by themselves, where they are no Sundays. Questions 14, 15 and 16 (place: the entries needed;
+ * SLP_MOST_HOLIDAYS is always enough).
  */
 struct slp_holidays_report slp_holidays(uint32_t year, uint8_t choice, uint32_t *list, size_t list_length);
 

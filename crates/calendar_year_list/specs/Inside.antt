@@ -48,7 +48,7 @@ calendarDays year choice =
     ∷ federal (on year 12 26)
     ∷ []
 
--- the k-th of them; behind the last one no date comes
+-- the k-th of them; for k = 17 a number later than every date
 abbrev pub dayAt : ℕ → ℕ → ℕ → Entry
 dayAt year choice k = getD (calendarDays year choice) k (record { date = 99_999_999; wanted = true })
 

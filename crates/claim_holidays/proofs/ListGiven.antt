@@ -1,9 +1,10 @@
--- The list that the call gives is the year's, which passes question 9; so no call that is given it is refused by that. Assumes nothing.
-use mathlib.Core.Path.{_≡_, refl, sym, _∙_, ap, subst}
+-- The list that the call gives is the year's, which passes question 9, alone and with those of the next years; so nothing that is given it
+-- is refused by that. Assumes nothing.
+use mathlib.Core.Path.{_≡_, refl, sym, subst}
 use mathlib.Core.List.{List}
 use Prim.Native.Nat.{ℕ}
 use lib.Dec.{eqb}
-use lib.ListN.{length, take, drop}
+use lib.ListN.{length, drop}
 use lib.Seq.{take-at}
 use borrow.Author.Tests.{eq-eqb}
 use Rattle.refusal.specs.declared.Verdict.{Verdict}
@@ -14,30 +15,33 @@ use Rattle.calendar_holidays.specs.Holidays.{holidaysQuestion}
 use Rattle.calendar_movable_days.specs.Inside.{InSpan}
 use Rattle.calendar_public_holidays.specs.YearHolidays.{yearHolidays}
 use Rattle.calendar_public_holidays.proofs.InOrder.{contradiction}
-use Rattle.calendar_public_holidays_laws.proofs.Question.{list-passes}
+use Rattle.calendar_public_holidays_laws.specs.List.{listsFrom, JoinedLists}
+use Rattle.calendar_public_holidays_laws.proofs.Question.{list-passes, joined-pass}
 use Rattle.call_holidays.specs.Holidays.{holidaysCheck, answered, holidaysAnswer, listAfter, reported}
 use Rattle.call_holidays.proofs.Questions.{year-passed}
-use Rattle.call_request.specs.Request.{series}
+use Rattle.call_request.specs.Request.{Request, series, requestCheck}
 use Rattle.call_expand.specs.Expanding.{expandCheck}
-use Rattle.claim_holidays.specs.ListGiven.{NotByNine, GoodList, report, ListGiven}
-use Rattle.claim_holidays.proofs.NotByNine.{passed, both, file-and-group, date-question, period, use-and-carry, output}
+use Rattle.program_input.specs.Input.{requestIn}
+use Rattle.claim_holidays.specs.ListGiven.{NotByNine, GoodList, ListGiven, JoinedGiven}
+use Rattle.claim_holidays.proofs.NotByNine.{passed, both, whole-input, file-and-group, date-question, period, use-and-carry, output}
 
 -- a list that passes question 9
-module _ (year choice : ℕ) (given : List ℕ) (e : given ≡ yearHolidays year choice) (p : holidaysQuestion given ≡ Pass) where
+module _ (given : List ℕ) (p : holidaysQuestion given ≡ Pass) where
   question-9 : NotByNine (holidaysQuestion given)
   question-9 = subst NotByNine (sym p) passed
 
-  good-list : GoodList year choice given
+  request-questions : (q : Request) → q .holidays ≡ given → NotByNine (requestCheck q)
+  request-questions q same =
+      both _ _ (file-and-group (q .file) (q .group))
+      (both _ _ (period (q .first) (q .last)) (both _ _ (subst (λ list. NotByNine (holidaysQuestion list)) (sym same) question-9) (use-and-carry (q .yearly) (q .carry))))
+
+  good-list : GoodList given
   unfolding expandCheck
   good-list =
       record {
-        isList = e;
         passes = p;
-        expanding = λ q same.
-            both _ _
-            (both _ _ (file-and-group (q .file) (q .group))
-            (both _ _ (period (q .first) (q .last)) (both _ _ (subst (λ list. NotByNine (holidaysQuestion list)) (sym same) question-9) (use-and-carry (q .yearly) (q .carry)))))
-            (output (length (series q)) (length (q .output)));
+        expanding = λ q same. both _ _ (request-questions q same) (output (length (series q)) (length (q .output)));
+        program = λ input same. both _ _ (whole-input input) (request-questions (requestIn input) same);
         enquiry = λ date. both _ _ (date-question date 0) question-9;
       }
 
@@ -50,7 +54,11 @@ pub list-given : ListGiven
 unfolding ListGiven holidaysCheck holidaysAnswer listAfter
 list-given year choice lent h =
     let pass : holidaysCheck year choice (length lent) ≡ Pass = accepted (holidaysCheck year choice (length lent)) (length (yearHolidays year choice)) h in
-    let span : InSpan year = year-passed year (then-first _ _ pass) in
-    let whole : take (report year choice lent .length) (listAfter year choice lent) ≡ yearHolidays year choice =
-    rw pass (take-at (yearHolidays year choice) (drop (length (yearHolidays year choice)) lent) (length (yearHolidays year choice)) refl) in
-    good-list year choice (take (report year choice lent .length) (listAfter year choice lent)) whole (ap holidaysQuestion whole ∙ list-passes year choice span)
+    let span : InSpan year = year-passed year (then-first _ _ pass) in (
+      rw pass (take-at (yearHolidays year choice) (drop (length (yearHolidays year choice)) lent) (length (yearHolidays year choice)) refl),
+      good-list (yearHolidays year choice) (list-passes year choice span),
+    )
+
+pub joined-given : JoinedGiven
+unfolding JoinedGiven JoinedLists
+joined-given year n choice a b h = good-list (listsFrom year n choice) (joined-pass year n choice a b h)

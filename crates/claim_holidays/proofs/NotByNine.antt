@@ -5,7 +5,7 @@ use mathlib.Core.List.{List}
 use Prim.Native.Nat.{ℕ, zero, suc, _+_}
 use native.Mathlib.Omega.{arith}
 use Rattle.refusal.specs.declared.Refusal.{Refusal}
-use Rattle.refusal.specs.declared.Refusal.the-variants.{NoMark, WrongVersion, WrongLength, BadCode, BadValue, NoGroup, BadDate, BadPeriod, BadUse, BadCarry, ShortOutput}
+use Rattle.refusal.specs.declared.Refusal.the-variants.{NoMark, WrongVersion, WrongLength, BadCode, BadValue, NoGroup, BadDate, BadPeriod, BadUse, BadCarry, ShortOutput, BadInput}
 use Rattle.refusal.specs.declared.Verdict.{Verdict}
 use Rattle.refusal.specs.declared.Verdict.the-variants.{Pass, Refused}
 use Rattle.refusal.specs.Questions.{refusalNumber, ask, _then_, askEach, roomQuestion}
@@ -16,6 +16,7 @@ use Rattle.file_values.specs.Values.{valueQuestion, profileValuesQuestion, valu
 use Rattle.file_check.specs.Check.{codeQuestion, codesQuestion, fileCheck}
 use Rattle.file_group.specs.Group.{groupQuestion, check}
 use Rattle.call_request.specs.Request.{useQuestion, carryQuestion}
+use Rattle.program_input.specs.Input.{inputQuestion}
 use Rattle.claim_holidays.specs.ListGiven.{NotByNine}
 
 pub passed : NotByNine Pass
@@ -74,3 +75,8 @@ use-and-carry yearly carry = both _ _ (one _ BadUse (λ h. absurd (omega (arith,
 pub output : (needed room : ℕ) → NotByNine (roomQuestion needed room)
 unfolding roomQuestion
 output needed room = one _ (ShortOutput needed) (λ h. absurd (omega (arith, h)))
+
+-- question 13
+pub whole-input : (input : List ℕ) → NotByNine (inputQuestion input)
+unfolding inputQuestion
+whole-input input = one _ BadInput (λ h. absurd (omega (arith, h)))

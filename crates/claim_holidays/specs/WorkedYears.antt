@@ -2,8 +2,9 @@
 use mathlib.Core.Path.{_≡_}
 use mathlib.Core.List.{[], _∷_}
 use Prim.Native.Nat.{ℕ}
+use Rattle.lists.specs.Lists.{Each}
 use Rattle.calendar_dates.specs.Dates.{numberOf}
-use Rattle.calendar_movable_days.specs.Easter.{cycleEpact, epact, fullMoon, easterSunday}
+use Rattle.calendar_movable_days.specs.Easter.{cycleEpact, epact, paschalFullMoon, fullMoon, easterSunday}
 use Rattle.calendar_movable_days.specs.Repentance.{repentance}
 use Rattle.calendar_public_holidays.specs.Days.{ascension}
 use Rattle.calendar_public_holidays.specs.YearHolidays.{yearHolidays}
@@ -29,6 +30,11 @@ pub record WorkedYears : Type 0 where
   pub year-2049 : EasterOn 2049 20490418
   pub exception-2076 : (cycleEpact 2076 ≡ 24) × (epact 2076 ≡ 25)
   pub year-2076 : EasterOn 2076 20760419
+  -- what no year of the span has: an epact of 25 that is no exception, since the golden number is at most 11 (Easter was 25 April 1886)
+  pub noException-1886 : (cycleEpact 1886 ≡ 25) × (epact 1886 ≡ 25)
+  pub fullMoon-1886 : numberOf (fullMoon 1886) ≡ 18860418
+  -- and a full moon on 21 March itself, in other centuries: the years from 1583 to 2400 with Easter on 22 March
+  pub earliest : Each (λ year. paschalFullMoon year ≡ 21) (1598 ∷ 1693 ∷ 1761 ∷ 1818 ∷ 2285 ∷ 2353 ∷ [])
   -- 23 November 2016 is a Wednesday itself
   pub repentance-2016 : numberOf (repentance 2016) ≡ 20161116
   -- source document 000, step 4: the federal days of 2000, with Corpus Christi (bit 1), and with all regional ones

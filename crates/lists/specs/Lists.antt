@@ -17,7 +17,7 @@ unfoldable pub eachFrom : {A : Type 0} → (ℕ → A) → ℕ → ℕ → ℕ �
 eachFrom f step zero at = []
 eachFrom f step (suc n) at = f at ∷ eachFrom f step n (at + step)
 
--- a number below a list's first one
+-- a number below a list's first one, where the list has one
 abbrev pub Before : ℕ → List ℕ → Type 0
 Before x [] = Unit {0}
 Before x (first ∷ xs) = x < first

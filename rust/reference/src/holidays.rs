@@ -101,8 +101,10 @@ pub fn holidays(year: u32, choice: u8, list: &mut [u32]) -> Result<usize, Refusa
 mod tests {
     use super::*;
 
-    /// Easter Sundays as month and day: of years around 2000 and 2025, the latest of the span, and two of the table's exceptions.
-    const EASTERS: [(u32, u32); 24] = [
+    /// Easter Sundays as month and day: of years around 2000 and 2025, the latest of the span, two of the table's exceptions, and 1886,
+    /// where an epact of 25 is none.
+    const EASTERS: [(u32, u32); 25] = [
+        (1886, 425),
         (1996, 407),
         (1997, 330),
         (1998, 412),

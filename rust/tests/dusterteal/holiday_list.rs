@@ -304,10 +304,12 @@ fn regional_days_are_added_to_those_of_a_state() {
     let line = "holidays 2026 --state BY --regional assumption";
     let words: Vec<&str> = line.split(' ').collect();
     let bavaria = warned(&words, &[&compare("Bayern")]);
-    let expected = "# Bayern, beside the days of all of Germany: Epiphany, Corpus Christi, All Saints' Day; by --regional: Assumption Day
+    let expected = format!(
+        "# Bayern, beside the days of all of Germany: Epiphany, Corpus Christi, All Saints' Day
+{OF_2000}# Added by --regional: Assumption Day
 # Assumption Day \"in Bayern in Gemeinden mit überwiegend katholischer Bevölkerung\": listed
-";
-    let expected = expected.replacen('\n', &format!("\n{OF_2000}"), 1);
+"
+    );
     assert_eq!(bavaria, expected + &year(2026, &[0, 1, 2, 4]));
     let saxony = [
         "holidays",
@@ -317,14 +319,16 @@ fn regional_days_are_added_to_those_of_a_state() {
     ];
     let lines = warned(&saxony, &[&compare("Sachsen")]);
     assert!(lines.ends_with(&year(2026, &[1, 3, 5])), "{lines}");
-    assert!(lines.contains("Reformation Day, Day of Repentance; by --regional: Corpus Christi\n"));
+    assert!(lines.contains("Germany: Reformation Day, Day of Repentance\n"));
+    assert!(lines.contains("\n# Added by --regional: Corpus Christi\n"));
     let berlin = ["holidays", "2026", "--regional", "all", "--state", "berlin"];
     let berlin = warned(&berlin, &[&compare("Berlin")]);
     assert!(
         berlin.ends_with(&year(2026, &[0, 1, 2, 3, 4, 5])),
         "{berlin}"
     );
-    assert!(berlin.contains("no regional day; by --regional: Epiphany, Corpus Christi, "));
+    assert!(berlin.contains("Germany: no regional day\n"));
+    assert!(berlin.contains("\n# Added by --regional: Epiphany, Corpus Christi, "));
     let own_year = written(&["holidays", "2000", "--state", "Hamburg"]);
     assert_eq!(own_year, remarks("Hamburg", &[], &[]) + &year(2000, &[]));
 }

@@ -2,6 +2,7 @@
 use slp::{Refusal, RegionalDay, MOST_HOLIDAYS};
 
 use crate::date::Date;
+use crate::failure::Failure;
 
 /// A holiday of a year.
 #[derive(Debug, Clone, PartialEq, Eq)]
@@ -62,6 +63,14 @@ pub fn dates(year: u32, regional: &[RegionalDay]) -> Result<Vec<u32>, Refusal> {
     let length = slp::holidays(year, regional, &mut list)?;
     list.truncate(length);
     Ok(list)
+}
+
+/// What is said of a refusal that the tool itself has caused.
+pub fn fault(Refusal { kind, place }: Refusal) -> Failure {
+    let (number, meaning) = (kind.number(), kind.meaning());
+    Failure::Refused(format!(
+        "fault of this tool: {meaning} (question {number}, place {place})"
+    ))
 }
 
 /// Each name with its date. A regional day is the date that its choice adds.
@@ -146,6 +155,15 @@ mod tests {
         let lines = lines(2008, &[]);
         assert_eq!(lines.len(), 10);
         assert_eq!(lines[4], "2008-05-01 May Day and Ascension Day");
+    }
+
+    #[test]
+    fn a_refusal_of_the_tools_own_making_is_called_a_fault() {
+        let refusal = slp::holidays(2000, &[], &mut []).unwrap_err();
+        assert_eq!(
+            fault(refusal).to_string(),
+            "fault of this tool: the list for the holidays is too short (question 16, place 11)"
+        );
     }
 
     #[test]

@@ -1,7 +1,7 @@
 //! `holidays`: the German holidays of a period, as the list that `--holidays` reads.
 use std::ffi::OsString;
 
-use slp::{Refusal, RegionalDay};
+use slp::{Refusal, RefusalKind, RegionalDay};
 
 use crate::arguments::{self, Arguments, Choice, Grammar};
 use crate::date::Period;
@@ -87,11 +87,13 @@ fn expect_years(word: &str, period: Period) -> Result<(), Failure> {
     Ok(())
 }
 
-fn refused(word: &str, year: u32, Refusal { kind, place }: Refusal) -> Failure {
-    let number = kind.number();
-    Failure::Refused(format!(
-        "PERIOD {word}: {year} lies outside the years 1996 to 2099 (question {number}, place {place})"
-    ))
+fn refused(word: &str, year: u32, refusal: Refusal) -> Failure {
+    match refusal.kind {
+        RefusalKind::BadYear => Failure::Refused(format!(
+            "PERIOD {word}: {year} lies outside the years 1996 to 2099 (question 14, place 0)"
+        )),
+        _ => german::fault(refusal),
+    }
 }
 
 /// What may be meant by a text that is no regional day.
@@ -160,12 +162,16 @@ impl Chosen {
             [] => "no regional day".to_owned(),
             days => regional::names(days),
         };
-        if !added.is_empty() {
-            text += &format!("; by --regional: {}", regional::names(&added));
-        }
         text += &format!(
-            "\n# So the footnotes of VDEW's step-by-step paper of 31.01.2000 (source document 000), step 4, have it for the year {FOOTNOTES_YEAR}.\n# States have changed their holidays since: compare the list with today's law.\n"
+            "
+# So the footnotes of VDEW's step-by-step paper of 31.01.2000 (source document 000), step 4, have it for the year {FOOTNOTES_YEAR}.
+# States have changed their holidays since: compare the list with today's law.
+"
         );
+        if !added.is_empty() {
+            let names = regional::names(&added);
+            text += &format!("# Added by --regional: {names}\n");
+        }
         for (day, words) in state.days_in_part() {
             let listed = match added.contains(&day) {
                 true => "listed".to_owned(),

@@ -1,7 +1,7 @@
 //! The list of holidays: of a file, or worked out.
 use std::ffi::{OsStr, OsString};
 
-use slp::RegionalDay;
+use slp::{RefusalKind, RegionalDay};
 
 use crate::arguments::Grammar;
 use crate::date::{self, Date, Period};
@@ -91,21 +91,26 @@ impl Holidays {
     pub fn load(wanted: &Wanted, run: Period) -> Result<Holidays, Failure> {
         match wanted {
             Wanted::Nothing => Ok(Holidays::default()),
-            Wanted::German(regional) => Ok(Holidays::worked_out(regional, run)),
+            Wanted::German(regional) => Holidays::worked_out(regional, run),
             Wanted::File(path) => Holidays::read(path),
         }
     }
 
     /// The German days of all years of a run. A year outside the span has none: question 7 refuses its dates.
-    fn worked_out(regional: &[RegionalDay], run: Period) -> Holidays {
-        let of_year = |year| german::of_year(year, regional).unwrap_or_default();
-        let listed = run.years().flat_map(of_year);
-        let listed = listed.map(|Holiday { date, name }| Listed {
-            date,
-            line: 0,
-            name,
-        });
-        Holidays::of(Source::German(regional.to_vec()), listed.collect())
+    fn worked_out(regional: &[RegionalDay], run: Period) -> Result<Holidays, Failure> {
+        let mut listed = Vec::new();
+        for year in run.years() {
+            let holidays = match german::of_year(year, regional) {
+                Err(refusal) if refusal.kind == RefusalKind::BadYear => Vec::new(),
+                answer => answer.map_err(german::fault)?,
+            };
+            listed.extend(holidays.into_iter().map(|Holiday { date, name }| Listed {
+                date,
+                line: 0,
+                name,
+            }));
+        }
+        Ok(Holidays::of(Source::German(regional.to_vec()), listed))
     }
 
     /// The list of a file.
@@ -457,7 +462,7 @@ mod tests {
     }
 
     fn german(run: &str, regional: &[RegionalDay]) -> Holidays {
-        Holidays::worked_out(regional, Period::parse(run).unwrap())
+        Holidays::worked_out(regional, Period::parse(run).unwrap()).unwrap()
     }
 
     /// Every call has the days of its own years, however long the run is.
