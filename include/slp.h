@@ -63,6 +63,14 @@ extern "C" {
 /* Enough entries for the holidays of every year. */
 #define SLP_MOST_HOLIDAYS 17
 
+/* The regional holidays, for the choice of slp_holidays: SLP_EPIPHANY | SLP_ALL_SAINTS, say. */
+#define SLP_EPIPHANY 1
+#define SLP_CORPUS_CHRISTI 2
+#define SLP_ASSUMPTION 4
+#define SLP_REFORMATION 8
+#define SLP_ALL_SAINTS 16
+#define SLP_REPENTANCE 32
+
 /* Passed (number 0, place 0) or refused. */
 struct slp_check_report {
     uint32_t number;
@@ -170,11 +178,11 @@ struct slp_response_report slp_respond(const uint8_t *input, size_t input_length
 /*
  * Writes the German holidays of `year` into the first entries of `list` and keeps those beyond: the eleven days that all of
  * Germany keeps (New Year, Good Friday, Easter Sunday and Monday, 1 May, Ascension Day, Whit Sunday and Monday, 3 October, 25 and
- * 26 December), and the regional days whose bit is set in `choice`: 0 Epiphany, 1 Corpus Christi, 2 Assumption Day, 3 Reformation
- * Day, 4 All Saints' Day, 5 Day of Repentance, so that 1 + 16 is Epiphany and All Saints' Day. The dates rise, and one that is
- * met twice (1 May 2008, Ascension Day too) is listed once, so slp_day and slp_expand take the list. 24 and 31 December are not in
- * it: they count as Saturday by themselves, where they are no Sundays. Questions 14, 15 and 16 (place: the entries needed;
- * SLP_MOST_HOLIDAYS is always enough).
+ * 26 December), and the regional days whose bits are set in `choice`: SLP_EPIPHANY (bit 0), SLP_CORPUS_CHRISTI (1), SLP_ASSUMPTION
+ * (2), SLP_REFORMATION (3), SLP_ALL_SAINTS (4), SLP_REPENTANCE (5), joined by |; 0 for none. The dates rise, and one that is met twice
+ * (1 May 2008, Ascension Day too) is listed once, so slp_day and slp_expand take the list. 24 and 31 December are not in it: they
+ * count as Saturday by themselves, where they are no Sundays. Questions 14, 15 and 16 (place: the entries needed; SLP_MOST_HOLIDAYS
+ * is always enough).
  */
 struct slp_holidays_report slp_holidays(uint32_t year, uint8_t choice, uint32_t *list, size_t list_length);
 

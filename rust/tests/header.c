@@ -108,11 +108,37 @@ static void text(void)
     expect("bytes needed", tight.place, sizeof lines - 1);
 }
 
+/* Each constant adds the date of its own day to the list of 2000. */
+static void regional_days(void)
+{
+    static const struct {
+        const char *name;
+        uint8_t choice;
+        uint32_t date;
+    } days[] = {
+        {"Epiphany", SLP_EPIPHANY, 20000106},
+        {"Corpus Christi", SLP_CORPUS_CHRISTI, 20000622},
+        {"Assumption Day", SLP_ASSUMPTION, 20000815},
+        {"Reformation Day", SLP_REFORMATION, 20001031},
+        {"All Saints' Day", SLP_ALL_SAINTS, 20001101},
+        {"Day of Repentance", SLP_REPENTANCE, 20001122},
+    };
+    static uint32_t list[SLP_MOST_HOLIDAYS];
+    for (size_t day = 0; day < sizeof days / sizeof days[0]; day++) {
+        size_t length = slp_holidays(2000, days[day].choice, list, SLP_MOST_HOLIDAYS).length;
+        size_t found = 0;
+        for (size_t entry = 0; entry < length; entry++)
+            found += list[entry] == days[day].date;
+        expect(days[day].name, found, 1);
+        expect("length with one regional day", length, 12);
+    }
+}
+
 static void holiday_list(void)
 {
     static uint32_t list[SLP_MOST_HOLIDAYS];
     list[12] = 7;
-    struct slp_holidays_report made = slp_holidays(2000, 2, list, SLP_MOST_HOLIDAYS);
+    struct slp_holidays_report made = slp_holidays(2000, SLP_CORPUS_CHRISTI, list, SLP_MOST_HOLIDAYS);
     expect("holidays", made.number, 0);
     expect("place", made.place, 0);
     expect("length", made.length, 12);
@@ -124,7 +150,7 @@ static void holiday_list(void)
     expect("length with all regional days", slp_holidays(2000, 63, list, SLP_MOST_HOLIDAYS).length, SLP_MOST_HOLIDAYS);
     expect("holidays of 1995", slp_holidays(1995, 0, list, SLP_MOST_HOLIDAYS).number, 14);
     expect("choice 64", slp_holidays(2000, 64, list, SLP_MOST_HOLIDAYS).number, 15);
-    struct slp_holidays_report tight = slp_holidays(2000, 2, list, 11);
+    struct slp_holidays_report tight = slp_holidays(2000, SLP_CORPUS_CHRISTI, list, 11);
     expect("holidays in 11 entries", tight.number, 16);
     expect("entries needed for the list", tight.place, 12);
 }
@@ -135,6 +161,7 @@ int main(void)
     day_call();
     listing();
     text();
+    regional_days();
     holiday_list();
     return faults == 0 ? 0 : 1;
 }

@@ -188,11 +188,11 @@ fn missing_and_surplus_arguments_are_named() {
         ("request G0 2000", "KWH is missing"),
         (
             "series G0 2000-03-25 2000-03-26 1000",
-            "it takes GROUP PERIOD KWH, and 4 words are given: \"G0\" \"2000-03-25\" \"2000-03-26\" \"1000\"; a period is one word, as 2026-01-15..2026-02-14",
+            "it takes GROUP PERIOD KWH, and 4 words are given: \"G0\" \"2000-03-25\" \"2000-03-26\" \"1000\"; a period is one word, as 2026-01-15..2026-02-14, and a value with blanks stands in quotes",
         ),
         (
             "days G0 2000 1000 2000",
-            "it takes GROUP PERIOD KWH, and 4 words are given: \"G0\" \"2000\" \"1000\" \"2000\"; a period is one word, as 2026-01-15..2026-02-14",
+            "it takes GROUP PERIOD KWH, and 4 words are given: \"G0\" \"2000\" \"1000\" \"2000\"; a period is one word, as 2026-01-15..2026-02-14, and a value with blanks stands in quotes",
         ),
         (
             "explain G0 29.10.2000 02:15 +02:00 3500",
@@ -200,11 +200,11 @@ fn missing_and_surplus_arguments_are_named() {
         ),
         (
             "day 2000 2001",
-            "it takes PERIOD, and 2 words are given: \"2000\" \"2001\"; a period is one word, as 2026-01-15..2026-02-14",
+            "it takes PERIOD, and 2 words are given: \"2000\" \"2001\"; a period is one word, as 2026-01-15..2026-02-14, and a value with blanks stands in quotes",
         ),
         (
             "holidays 2000 Bayern",
-            "it takes PERIOD, and 2 words are given: \"2000\" \"Bayern\"; a period is one word, as 2026-01-15..2026-02-14",
+            "it takes PERIOD, and 2 words are given: \"2000\" \"Bayern\"; a period is one word, as 2026-01-15..2026-02-14, and a value with blanks stands in quotes",
         ),
         (
             "unpack a.slp G0 b.csv",

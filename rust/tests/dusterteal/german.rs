@@ -403,25 +403,13 @@ fn a_run_that_begins_outside_the_span_is_refused() {
 
 /// What names no regional day, what is wrong, and what may be meant.
 const UNKNOWN: [(&str, &str, &str); 4] = [
-    (
-        "german:easter",
-        "\"easter\" is no regional day",
-        "; a file of this name is ./german:easter\n",
-    ),
-    (
-        "German:",
-        "a name is missing",
-        "; a file of this name is ./German:\n",
-    ),
-    (
-        "german:epiphany,x",
-        "\"x\" is no regional day",
-        "; a file of this name is ./german:epiphany,x\n",
-    ),
+    ("german:easter", "\"easter\" is no regional day", ""),
+    ("German:", "a name is missing", ""),
+    ("german:epiphany,x", "\"x\" is no regional day", ""),
     (
         "german:Bavaria",
         "\"Bavaria\" is no regional day",
-        "; the list of a state is made by `dusterteal holidays YEAR --state Bayern`\n",
+        "; the list of a state is made by `dusterteal holidays YEAR --state Bayern -o FILE` and read by --holidays FILE",
     ),
 ];
 
@@ -437,19 +425,40 @@ fn names_that_are_no_regional_days_are_not_understood() {
         &source.profiles,
     ];
     for (which, fault, hint) in UNKNOWN {
-        let names = "they are epiphany (Heilige Drei Könige), ";
+        let names = "the regional days are epiphany (Heilige Drei Könige), ";
         let what = format!("--holidays: {fault}: {names}");
         let line = [&series[..], &["--holidays", which]].concat();
-        stopped(
-            &line,
-            2,
-            &["series: ", &what, hint, "See `dusterteal series --help`."],
-        );
-        stopped(
-            &["day", "2000", "--holidays", which],
-            2,
-            &["day: ", &what, hint],
-        );
+        let end = format!("or say all or none{hint}\nSee `dusterteal series --help`.");
+        stopped(&line, 2, &["series: ", &what, &end]);
+        let end = format!("or say all or none{hint}\nSee `dusterteal day --help`.");
+        let line = ["day", "2000", "--holidays", which];
+        stopped(&line, 2, &["day: ", &what, &end]);
+    }
+}
+
+/// Where there is such a file, it may be meant.
+#[test]
+fn a_file_whose_name_begins_with_german_is_thought_of() {
+    let folder = folder("german_like");
+    fs::write(folder.join("german:easter"), "2000-04-23\n").expect("the file");
+    let mut command = command(&["day", "2000", "--holidays", "german:easter"]);
+    let output = command
+        .current_dir(&folder)
+        .output()
+        .expect("the tool runs");
+    let said = String::from_utf8(output.stderr).expect("text");
+    let hint = "; or say all or none; the file of this name is ./german:easter\n";
+    assert!(said.contains(hint), "{said}");
+}
+
+/// The options of `holidays` are not those of a run, which is told where to go.
+#[test]
+fn the_options_of_a_list_are_sent_to_it() {
+    let hint = "; `dusterteal holidays` takes it and writes a list, which --holidays reads\n";
+    for option in ["--state", "--regional"] {
+        let line = ["series", "G0", "2000", "3500", option, "all"];
+        let fault = format!("series: \"{option}\" is no option: its options are --profiles, ");
+        stopped(&line, 2, &[&fault, hint]);
     }
 }
 
@@ -458,8 +467,7 @@ fn a_word_that_is_no_file_is_told_what_is_taken() {
     let told = "; --holidays takes german, german:NAME,.. with regional days, a file with one date a line, or none\n";
     let line = ["day", "2000", "--holidays", "germany"];
     stopped(&line, 3, &["cannot read germany: ", told]);
-    let hint =
-        "or none; the list of a state is made by `dusterteal holidays YEAR --state Bayern`\n";
+    let hint = "or none; the list of a state is made by `dusterteal holidays YEAR --state Bayern -o FILE` and read by --holidays FILE\n";
     stopped(&["day", "2000", "--holidays", "Bayern"], 3, &[hint]);
 }
 
@@ -475,6 +483,6 @@ fn a_file_with_too_many_dates_is_still_refused() {
         "all-saints,epiphany",
     ];
     warned(&[&line[..], &["-o", &path]].concat(), &[warning]);
-    let message = format!("{path}, line 401: the list has 1351 dates; at most 400 are allowed (question 9, place 400)");
+    let message = format!("{path}, line 403: the list has 1351 dates; at most 400 are allowed (question 9, place 400)");
     says(&["day", "2000", "--holidays", &path], 1, &message);
 }

@@ -42,11 +42,43 @@ const WORDS: [&str; 6] = [
 ];
 
 /// What is said of a word that names no regional day.
-const THEY_ARE: &str = "they are epiphany (Heilige Drei Könige), corpus-christi (Fronleichnam), assumption (Mariä Himmelfahrt), reformation-day (Reformationstag), all-saints (Allerheiligen), repentance-day (Buß- und Bettag), split by commas; or say all or none";
+const THEY_ARE: &str = "the regional days are epiphany (Heilige Drei Könige), corpus-christi (Fronleichnam), assumption (Mariä Himmelfahrt), reformation-day (Reformationstag), all-saints (Allerheiligen), repentance-day (Buß- und Bettag), split by commas; or say all or none";
 
-/// The list of some days of the span with these regional days, by the independent implementation. Two days of one date are in the
-/// order of the paper.
+/// What every list says of the days that it does not have, and one that has not all days of its years.
+const DECEMBER: &str = "# 24 and 31 December are not listed: they count as Saturday by themselves, unless they are Sundays.\n";
+const PART: &str =
+    "# A run that begins earlier (--since) or ends later needs the days of its whole years.\n";
+
+/// What `--holidays` takes for these regional days.
+fn german(chosen: &[usize]) -> String {
+    let words: Vec<&str> = chosen.iter().map(|&bit| WORDS[bit]).collect();
+    match chosen.len() {
+        0 => "german".to_owned(),
+        6 => "german:all".to_owned(),
+        _ => format!("german:{}", words.join(",")),
+    }
+}
+
+/// The list of some days of the span with these regional days, and with what is said of a state.
+fn list_of_state(first: u32, last: u32, chosen: &[usize], remarks: &str) -> String {
+    let is_part = first % 10_000 != 101 || last % 10_000 != 1231;
+    format!(
+        "# German holidays from {} to {}, as --holidays {} works them out\n{remarks}{DECEMBER}{}{}",
+        dashed(first),
+        dashed(last),
+        german(chosen),
+        if is_part { PART } else { "" },
+        lines(first, last, chosen)
+    )
+}
+
+/// The list of some days of the span with these regional days.
 fn list(first: u32, last: u32, chosen: &[usize]) -> String {
+    list_of_state(first, last, chosen, "")
+}
+
+/// Its dates and names, by the independent implementation. Two days of one date are in the order of the paper.
+fn lines(first: u32, last: u32, chosen: &[usize]) -> String {
     let mut days = Vec::new();
     for year in first / 10_000..=last / 10_000 {
         days.extend(federal(year).into_iter().zip(FEDERAL));
@@ -65,21 +97,22 @@ fn list(first: u32, last: u32, chosen: &[usize]) -> String {
 
 /// The list of a year.
 fn year(year: u32, chosen: &[usize]) -> String {
-    list(10_000 * year + 101, 10_000 * year + 1231, chosen)
+    year_of_state(year, chosen, "")
+}
+
+/// The list of a year, with what is said of a state.
+fn year_of_state(year: u32, chosen: &[usize], remarks: &str) -> String {
+    list_of_state(10_000 * year + 101, 10_000 * year + 1231, chosen, remarks)
 }
 
 #[test]
 fn every_year_of_the_span_has_its_days_and_names() {
     for (option, chosen) in [("none", &[][..]), ("all", &[0, 1, 2, 3, 4, 5])] {
         let whole = list(19_960_101, 20_991_231, chosen);
-        let count = whole.lines().count();
-        assert_eq!(count, (11 + chosen.len()) * 104 - 1);
+        let count = (11 + chosen.len()) * 104 - 1;
+        assert_eq!(whole.lines().count(), count + 2);
         let line = ["holidays", "1996..2099", "--regional", option];
-        let word = if chosen.is_empty() {
-            "german"
-        } else {
-            "german:all"
-        };
+        let word = german(chosen);
         let warning = format!(
             "the list has {count} dates, and a file with more than 400 is refused; for so long a run say --holidays {word}\n"
         );
@@ -104,7 +137,9 @@ fn the_papers_list_of_2000() {
 2000-12-25 Christmas Day
 2000-12-26 Second Day of Christmas
 ";
-    assert_eq!(written(&["holidays", "2000"]), federal);
+    let heading = "# German holidays from 2000-01-01 to 2000-12-31, as --holidays german";
+    let expected = format!("{heading} works them out\n{DECEMBER}{federal}");
+    assert_eq!(written(&["holidays", "2000"]), expected);
     let regional = "2000-01-06 Epiphany
 2000-06-22 Corpus Christi
 2000-08-15 Assumption Day
@@ -114,8 +149,14 @@ fn the_papers_list_of_2000() {
 ";
     let mut all: Vec<&str> = federal.lines().chain(regional.lines()).collect();
     all.sort();
-    let written = written(&["holidays", "2000", "--regional", "all"]);
-    assert_eq!(written.lines().collect::<Vec<_>>(), all);
+    let expected = format!(
+        "{heading}:all works them out\n{DECEMBER}{}\n",
+        all.join("\n")
+    );
+    assert_eq!(
+        written(&["holidays", "2000", "--regional", "all"]),
+        expected
+    );
 }
 
 #[test]
@@ -123,6 +164,7 @@ fn a_period_has_its_own_days_alone() {
     for (period, first, last) in [
         ("2026-Q2", 20_260_401, 20_260_630),
         ("2026-12", 20_261_201, 20_261_231),
+        ("2026-01..2026-10", 20_260_101, 20_261_031),
         ("2026-04-05", 20_260_405, 20_260_405),
         ("05.04.2026..06.04.2026", 20_260_405, 20_260_406),
         ("2025-12-26..2027-01-06", 20_251_226, 20_270_106),
@@ -131,16 +173,6 @@ fn a_period_has_its_own_days_alone() {
         ("2099-12-26..2099-12-31", 20_991_226, 20_991_231),
     ] {
         let expected = list(first, last, &[0, 1, 2, 3, 4, 5]);
-        assert!(!expected.is_empty(), "{period}");
-        let remark = format!(
-            "# From {} to {} alone: a run that begins earlier (--since) or ends later needs the days of its whole years.\n",
-            dashed(first),
-            dashed(last)
-        );
-        let expected = match period {
-            "2007..2009" => expected,
-            _ => remark + &expected,
-        };
         let line = ["holidays", period, "--regional", "all"];
         assert_eq!(written(&line), expected, "{period}");
     }
@@ -153,7 +185,8 @@ fn a_period_without_a_day_is_warned_of() {
         warnings(&line),
         ["no holiday lies in 2000-02: the list has no date"]
     );
-    assert_eq!(warned(&line, &[]).lines().count(), 1);
+    let all = [0, 1, 2, 3, 4, 5];
+    assert_eq!(warned(&line, &[]), list(20_000_201, 20_000_229, &all));
 }
 
 /// What each regional day may be called: in English or German, in capitals or not, with blanks or hyphens.
@@ -253,11 +286,6 @@ const STATES: [State; 16] = [
     ),
 ];
 
-/// What every list of a state says.
-const OF_2000: &str = "# So the footnotes of VDEW's step-by-step paper of 31.01.2000 (source document 000), step 4, have it for the year 2000.
-# States have changed their holidays since: compare the list with today's law.
-";
-
 /// What the tool says beside the list of a state for other years.
 fn compare(state: &str) -> String {
     format!(
@@ -265,7 +293,16 @@ fn compare(state: &str) -> String {
     )
 }
 
-/// What the list of a state says of itself, where `--regional` adds nothing.
+/// What the list of a state says of it, by the regional days of the state.
+fn of_2000(name: &str, days: &str) -> String {
+    format!(
+        "# {name} in the year 2000: {days}, by the footnotes of VDEW's step-by-step paper of 31.01.2000 (source document 000, step 4)
+# States have changed their holidays since: compare the list with today's law.
+"
+    )
+}
+
+/// The same where `--regional` adds nothing, with the days of some communities.
 fn remarks(name: &str, days: &[usize], parts: &[(usize, &str)]) -> String {
     let days: Vec<&str> = days.iter().map(|&bit| REGIONAL[bit]).collect();
     let days = if days.is_empty() {
@@ -275,19 +312,16 @@ fn remarks(name: &str, days: &[usize], parts: &[(usize, &str)]) -> String {
     };
     let part = |(bit, words): &(usize, &str)| {
         let (day, word) = (REGIONAL[*bit], WORDS[*bit]);
-        format!("# {day} \"{words}\": not listed, --regional {word} adds it\n")
+        format!("# {day} \"{words}\": left out, --regional {word} adds it\n")
     };
     let parts: String = parts.iter().map(part).collect();
-    format!(
-        "# {name}, beside the days of all of Germany: {days}
-{OF_2000}{parts}"
-    )
+    of_2000(name, &days) + &parts
 }
 
 #[test]
 fn every_state_has_the_days_of_the_papers_footnotes() {
     for (names, days, parts) in STATES {
-        let expected = remarks(names[0], days, parts) + &year(2026, days);
+        let expected = year_of_state(2026, days, &remarks(names[0], days, parts));
         for name in names {
             for name in [name.to_string(), name.to_uppercase(), name.to_lowercase()] {
                 let line = ["holidays", "2026", "--state", &name];
@@ -301,36 +335,98 @@ fn every_state_has_the_days_of_the_papers_footnotes() {
 /// The days of some communities, which the state's list leaves out, are added by name.
 #[test]
 fn regional_days_are_added_to_those_of_a_state() {
-    let line = "holidays 2026 --state BY --regional assumption";
+    let line = "holidays 2026 --state BY --regional assumption,epiphany";
     let words: Vec<&str> = line.split(' ').collect();
     let bavaria = warned(&words, &[&compare("Bayern")]);
-    let expected = format!(
-        "# Bayern, beside the days of all of Germany: Epiphany, Corpus Christi, All Saints' Day
-{OF_2000}# Added by --regional: Assumption Day
-# Assumption Day \"in Bayern in Gemeinden mit überwiegend katholischer Bevölkerung\": listed
-"
-    );
-    assert_eq!(bavaria, expected + &year(2026, &[0, 1, 2, 4]));
+    let remarks = of_2000("Bayern", "Epiphany, Corpus Christi, All Saints' Day")
+        + "# Added by --regional: Assumption Day
+# Assumption Day \"in Bayern in Gemeinden mit überwiegend katholischer Bevölkerung\": added
+";
+    assert_eq!(bavaria, year_of_state(2026, &[0, 1, 2, 4], &remarks));
     let saxony = [
         "holidays",
         "2026",
         "--regional=repentance-day,corpus-christi",
         "--state=Sachsen",
     ];
-    let lines = warned(&saxony, &[&compare("Sachsen")]);
-    assert!(lines.ends_with(&year(2026, &[1, 3, 5])), "{lines}");
-    assert!(lines.contains("Germany: Reformation Day, Day of Repentance\n"));
-    assert!(lines.contains("\n# Added by --regional: Corpus Christi\n"));
-    let berlin = ["holidays", "2026", "--regional", "all", "--state", "berlin"];
-    let berlin = warned(&berlin, &[&compare("Berlin")]);
-    assert!(
-        berlin.ends_with(&year(2026, &[0, 1, 2, 3, 4, 5])),
-        "{berlin}"
+    let remarks = of_2000("Sachsen", "Reformation Day, Day of Repentance")
+        + "# Added by --regional: Corpus Christi
+# Corpus Christi \"in Sachsen in einzelnen Gemeinden\": added
+";
+    assert_eq!(
+        warned(&saxony, &[&compare("Sachsen")]),
+        year_of_state(2026, &[1, 3, 5], &remarks)
     );
-    assert!(berlin.contains("Germany: no regional day\n"));
-    assert!(berlin.contains("\n# Added by --regional: Epiphany, Corpus Christi, "));
-    let own_year = written(&["holidays", "2000", "--state", "Hamburg"]);
-    assert_eq!(own_year, remarks("Hamburg", &[], &[]) + &year(2000, &[]));
+    let berlin = ["holidays", "2026", "--regional", "all", "--state", "berlin"];
+    let all = REGIONAL.join(", ");
+    let remarks = of_2000("Berlin", "no regional day") + &format!("# Added by --regional: {all}\n");
+    assert_eq!(
+        warned(&berlin, &[&compare("Berlin")]),
+        year_of_state(2026, &[0, 1, 2, 3, 4, 5], &remarks)
+    );
+}
+
+/// In the year of the footnotes nothing has changed since; where one year is another, it is said.
+#[test]
+fn the_law_of_other_years_is_warned_of() {
+    let line = ["holidays", "2000", "--state", "Hamburg"];
+    let hamburg = remarks("Hamburg", &[], &[]);
+    assert_eq!(written(&line), year_of_state(2000, &[], &hamburg));
+    for (period, first, last) in [
+        ("1999..2000", 19_990_101, 20_001_231),
+        ("2000..2001", 20_000_101, 20_011_231),
+    ] {
+        let line = ["holidays", period, "--state", "Hamburg"];
+        assert_eq!(
+            warned(&line, &[&compare("Hamburg")]),
+            list_of_state(first, last, &[], &hamburg)
+        );
+    }
+}
+
+/// A file may have 400 dates: 395 of 36 years, and five of the next. Ascension Day 2032 is one too many.
+#[test]
+fn the_longest_list_that_a_file_may_have() {
+    let path = text(&folder("holiday_list_longest").join("holidays.txt"));
+    let line = ["holidays", "1996..2032-05-01", "-o", &path];
+    assert_eq!(written(&line), "");
+    let content = fs::read_to_string(&path).expect("the list");
+    assert_eq!(content, list(19_960_101, 20_320_501, &[]));
+    assert_eq!(content.lines().count(), 400 + 3);
+    written(&["day", "2032-05-01", "--holidays", &path]);
+    let longer = ["holidays", "1996..2032-05-06"];
+    let warning = "the list has 401 dates, and a file with more than 400 is refused; for so long a run say --holidays german\n";
+    warned(&longer, &[warning]);
+}
+
+/// A list of a quarter is not taken for one of a year without a word.
+#[test]
+fn a_run_beyond_the_list_is_warned_of() {
+    let folder = folder("holiday_list_beyond");
+    let path = |name| text(&folder.join(name));
+    let (quarter, rest) = (path("quarter.txt"), path("rest.txt"));
+    written(&["holidays", "2026-Q2", "-o", &quarter]);
+    written(&["holidays", "2026-07..2027", "-o", &rest]);
+    let day = |period, list: &str| warnings(&["day", period, "--holidays", list]);
+    for within in ["2026-Q2", "2026-05-01", "2026-04-30..2026-06-30"] {
+        assert_eq!(day(within, &quarter), [""; 0], "{within}");
+    }
+    for (beyond, days) in [
+        ("2026", "2026-01-01 to 2026-12-31"),
+        ("2026-03-31..2026-04-05", "2026-03-31 to 2026-04-05"),
+        ("2026-06-30..2026-07-01", "2026-06-30 to 2026-07-01"),
+    ] {
+        let warning = format!("{quarter} has the days from 2026-04-01 to 2026-06-30, as it says itself, and the run goes from {days}: no other day counts as a holiday");
+        assert_eq!(day(beyond, &quarter), [warning]);
+    }
+    let without = format!("{quarter} lists no date of 2027: no day counts as a holiday there");
+    assert_eq!(day("2026-05..2027", &quarter), [without]);
+    let both = [&quarter, &rest].map(|path| fs::read_to_string(path).expect("a list"));
+    let joined = path("joined.txt");
+    fs::write(&joined, both.concat()).expect("the lists joined");
+    assert_eq!(day("2026-04-01..2027-12-31", &joined), [""; 0]);
+    let warning = format!("{joined} has the days from 2026-04-01 to 2026-06-30, from 2026-07-01 to 2027-12-31, as it says itself, and the run goes from 2026-03-31 to 2027-12-31: no other day counts as a holiday");
+    assert_eq!(day("2026-03-31..2027", &joined), [warning]);
 }
 
 /// What is written is read by `--holidays`, remarks and names and all.
@@ -340,7 +436,7 @@ fn a_run_reads_the_list() {
     let line = ["holidays", "2007..2009", "--state", "BY", "-o", &path];
     assert_eq!(warned(&line, &[&compare("Bayern")]), "");
     let content = fs::read_to_string(&path).expect("the list");
-    assert!(content.starts_with("# Bayern, ") && content.contains("überwiegend katholischer"));
+    assert!(content.contains("\n# Bayern in ") && content.contains("überwiegend katholischer"));
     let calendar = written(&["day", "2007..2009", "--holidays", &path]);
     for row in calendar.lines().skip(1) {
         let fields: Vec<&str> = row.split(';').collect();

@@ -232,7 +232,13 @@ impl Grammar {
                 [] => "it has none".to_owned(),
                 _ => format!("its options are {}", names.join(", ")),
             };
-            self.fault(&format!("{} is no option: {known}", quoted(name)))
+            let hint = match name {
+                "--state" | "--regional" => {
+                    "; `dusterteal holidays` takes it and writes a list, which --holidays reads"
+                }
+                _ => "",
+            };
+            self.fault(&format!("{} is no option: {known}{hint}", quoted(name)))
         })
     }
 
@@ -278,7 +284,7 @@ impl Grammar {
                 .collect();
             let hint = match self.words {
                 [_, "PERIOD", ..] | ["PERIOD"] => {
-                    "; a period is one word, as 2026-01-15..2026-02-14"
+                    "; a period is one word, as 2026-01-15..2026-02-14, and a value with blanks stands in quotes"
                 }
                 [_, _, "TIME", ..] => "; time and offset are one word, as 02:15+01:00",
                 _ => "",

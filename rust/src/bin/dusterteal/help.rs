@@ -189,7 +189,8 @@ days that are asked for. PERIOD is as in `series`, of any length in 1996 to 2099
 in a run without a file, say --holidays german or --holidays german:NAME,.. there. 24 and 31 December are not listed: they
 count as Saturday by themselves, unless they are Sundays.
 
-  --regional NAME,..    regional days, or all, or none, as without it; a name is in English or German, with hyphens for blanks:{names}
+  --regional NAME,..    regional days, beside those of --state; or all; or none, as without it. A name is in English or German, with
+                        hyphens for blanks:{names}
   --state STATE         the regional days of a state, by its name or code (Bayern, Bavaria, BY), as source document 000 has them for
                         the year 2000; days of some communities alone are left out, and the list says which: --regional adds them
 {FILES}"

@@ -8,6 +8,7 @@ use crate::date::Period;
 use crate::failure::{warn, Failure};
 use crate::files::{Made, Output};
 use crate::german::{self, Holiday};
+use crate::heading;
 use crate::regional;
 use crate::run::{self, OUTPUT};
 use crate::states::{State, FOOTNOTES_YEAR};
@@ -40,7 +41,7 @@ pub fn make(given: &[OsString]) -> Result<Made, Failure> {
     chosen.warn(period);
     let days = chosen.days();
     let holidays = holidays(&word, period, &days)?;
-    let mut text = chosen.remarks() + &part_of_a_year(period);
+    let mut text = heading::line(period, &days) + &chosen.remarks() + &about_days(period);
     for Holiday { date, name } in &holidays {
         text += &format!("{date} {name}\n");
     }
@@ -56,15 +57,15 @@ pub fn make(given: &[OsString]) -> Result<Made, Failure> {
     Ok(Made::of(output, Vec::new()))
 }
 
-/// What a list says of itself that has not all days of its years.
-fn part_of_a_year(period: Period) -> String {
-    let Period { first, last } = period;
-    match period.is_whole_years() {
-        true => String::new(),
-        false => format!(
-            "# From {first} to {last} alone: a run that begins earlier (--since) or ends later needs the days of its whole years.\n"
-        ),
+/// What a list says of days that it does not have.
+fn about_days(period: Period) -> String {
+    let mut text = String::from(
+        "# 24 and 31 December are not listed: they count as Saturday by themselves, unless they are Sundays.\n",
+    );
+    if !period.is_whole_years() {
+        text += "# A run that begins earlier (--since) or ends later needs the days of its whole years.\n";
     }
+    text
 }
 
 /// The holidays that lie in a period.
@@ -157,27 +158,26 @@ impl Chosen {
         let of_state = self.of_state();
         let mut added = self.named.clone();
         added.retain(|day| !of_state.contains(day));
-        let mut text = format!("# {}, beside the days of all of Germany: ", state.name);
-        text += &match &of_state[..] {
+        let days = match &of_state[..] {
             [] => "no regional day".to_owned(),
             days => regional::names(days),
         };
-        text += &format!(
-            "
-# So the footnotes of VDEW's step-by-step paper of 31.01.2000 (source document 000), step 4, have it for the year {FOOTNOTES_YEAR}.
+        let mut text = format!(
+            "# {} in the year {FOOTNOTES_YEAR}: {days}, by the footnotes of VDEW's step-by-step paper of 31.01.2000 (source document 000, step 4)
 # States have changed their holidays since: compare the list with today's law.
-"
+",
+            state.name
         );
         if !added.is_empty() {
             let names = regional::names(&added);
             text += &format!("# Added by --regional: {names}\n");
         }
         for (day, words) in state.days_in_part() {
-            let listed = match added.contains(&day) {
-                true => "listed".to_owned(),
-                false => format!("not listed, --regional {} adds it", regional::word(day)),
+            let fate = match added.contains(&day) {
+                true => "added".to_owned(),
+                false => format!("left out, --regional {} adds it", regional::word(day)),
             };
-            text += &format!("# {day} \"{words}\": {listed}\n");
+            text += &format!("# {day} \"{words}\": {fate}\n");
         }
         text
     }

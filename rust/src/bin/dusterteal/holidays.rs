@@ -1,5 +1,6 @@
 //! The list of holidays: of a file, or worked out.
 use std::ffi::{OsStr, OsString};
+use std::path::Path;
 
 use slp::{RefusalKind, RegionalDay};
 
@@ -10,7 +11,7 @@ use crate::files::Input;
 use crate::german::{self, Holiday};
 use crate::states::State;
 use crate::text::{self, quoted};
-use crate::{help, regional};
+use crate::{heading, help, regional};
 
 /// What the option `--holidays` asks for.
 #[derive(Debug, Clone, PartialEq, Eq)]
@@ -47,13 +48,16 @@ impl Wanted {
 fn hint(value: &str, names: &str) -> String {
     match State::parse(names) {
         Ok(state) => of_state(state),
-        Err(_) => format!("; a file of this name is ./{value}"),
+        Err(_) if Path::new(value).exists() => format!("; the file of this name is ./{value}"),
+        Err(_) => String::new(),
     }
 }
 
 fn of_state(state: &State) -> String {
-    let name = state.name;
-    format!("; the list of a state is made by `dusterteal holidays YEAR --state {name}`")
+    format!(
+        "; the list of a state is made by `dusterteal holidays YEAR --state {} -o FILE` and read by --holidays FILE",
+        state.name
+    )
 }
 
 /// Where a list comes from.
@@ -84,6 +88,8 @@ pub struct Holidays {
     pub source: Source,
     listed: Vec<Listed>,
     dates: Vec<u32>,
+    /// The periods whose days a file says that it has.
+    said: Vec<Period>,
 }
 
 impl Holidays {
@@ -130,7 +136,11 @@ impl Holidays {
             ));
             listed.sort_by_key(|listed| listed.date);
         }
-        Ok(Holidays::of(Source::File(source), listed))
+        let said = heading::periods(&text);
+        Ok(Holidays {
+            said,
+            ..Holidays::of(Source::File(source), listed)
+        })
     }
 
     fn of(source: Source, listed: Vec<Listed>) -> Holidays {
@@ -138,6 +148,7 @@ impl Holidays {
             dates: listed.iter().map(|listed| listed.date.0).collect(),
             listed,
             source,
+            said: Vec::new(),
         }
     }
 
@@ -168,17 +179,35 @@ impl Holidays {
         found.ok().map(|at| self.listed[at].name.as_str())
     }
 
-    /// Warns of the years of a period that have no listed date, where the list is a file's.
-    pub fn warn_of_empty_years(&self, period: Period) {
+    /// Warns of the days of a run that the list of a file does not know: years without a listed date, or else days outside the
+    /// periods that the file says it has.
+    pub fn warn_of_gaps(&self, run: Period) {
         let Some(source) = self.file() else { return };
-        let years = self.empty_years(period);
+        let name = &source.name;
+        let years = self.empty_years(run);
         if !years.is_empty() {
             let years = in_words(&years);
             warn(&format!(
-                "{} lists no date of {years}: no day counts as a holiday there",
-                source.name
+                "{name} lists no date of {years}: no day counts as a holiday there"
+            ));
+        } else if !self.has_days_of(run) {
+            let words = |Period { first, last }: &Period| format!("{first} to {last}");
+            let said: Vec<String> = self.said.iter().map(words).collect();
+            warn(&format!(
+                "{name} has the days from {}, as it says itself, and the run goes from {}: no other day counts as a holiday",
+                said.join(", from "),
+                words(&run)
             ));
         }
+    }
+
+    /// Whether the file says that it has the first and the last day of a run, or says nothing.
+    fn has_days_of(&self, run: Period) -> bool {
+        let has = |date: Date| {
+            let mut periods = self.said.iter();
+            periods.any(|period| (period.first..=period.last).contains(&date))
+        };
+        self.said.is_empty() || has(run.first) && has(run.last)
     }
 
     fn empty_years(&self, period: Period) -> Vec<u32> {
@@ -452,12 +481,12 @@ mod tests {
         let fault = wanted("german:easter").unwrap_err();
         assert!(
             fault.starts_with(
-                "series: --holidays: \"easter\" is no regional day: they are epiphany ("
-            ) && fault.contains("; a file of this name is ./german:easter\n"),
+                "series: --holidays: \"easter\" is no regional day: the regional days are epiphany ("
+            ) && fault.contains("; or say all or none\n"),
             "{fault}"
         );
         let fault = wanted("german:bavaria").unwrap_err();
-        let hint = "; the list of a state is made by `dusterteal holidays YEAR --state Bayern`\n";
+        let hint = "; the list of a state is made by `dusterteal holidays YEAR --state Bayern -o FILE` and read by --holidays FILE\n";
         assert!(fault.contains(hint), "{fault}");
     }
 

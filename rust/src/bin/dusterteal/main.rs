@@ -13,6 +13,7 @@ mod explain;
 mod failure;
 mod files;
 mod german;
+mod heading;
 mod help;
 mod holiday_list;
 mod holidays;

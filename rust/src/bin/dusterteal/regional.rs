@@ -71,7 +71,7 @@ fn unknown(word: &str) -> String {
         "all" | "none" => format!("{} stands alone", quoted(word)),
         _ => format!("{} is no regional day", quoted(word)),
     };
-    format!("{fault}: they are {names}, split by commas; or say all or none")
+    format!("{fault}: the regional days are {names}, split by commas; or say all or none")
 }
 
 #[cfg(test)]
@@ -147,7 +147,7 @@ mod tests {
         ] {
             let what = parse(text).unwrap_err();
             let beginning =
-                format!("{fault}: they are epiphany (Heilige Drei Könige), corpus-christi (");
+                format!("{fault}: the regional days are epiphany (Heilige Drei Könige), corpus-");
             assert!(what.starts_with(&beginning), "{text}: {what}");
         }
     }

@@ -130,7 +130,7 @@ impl Run {
     }
 
     fn warn(&self) {
-        self.holidays.warn_of_empty_years(self.whole());
+        self.holidays.warn_of_gaps(self.whole());
         plausibility::warn_of_energy(&self.profiles, self.group);
     }
 

@@ -80,16 +80,19 @@ pub fn content(text: &str) -> impl Iterator<Item = (usize, &str)> {
         .filter(|(_, line)| !line.is_empty() && !line.starts_with('#'))
 }
 
-/// A name as names are compared: its letters and digits alone, in small letters, with German ones spelt out.
+/// A name as names are compared: its letters and digits alone, in small letters, with German ones spelt out. The two dots of an umlaut
+/// may be a character of their own, as some systems write them.
 pub fn plain(text: &str) -> String {
     let mut plain = String::new();
-    for c in text.to_lowercase().chars().filter(|c| c.is_alphanumeric()) {
+    for c in text.to_lowercase().chars() {
         match c {
             'ä' => plain += "ae",
             'ö' => plain += "oe",
             'ü' => plain += "ue",
             'ß' => plain += "ss",
-            c => plain.push(c),
+            '\u{308}' => plain.push('e'),
+            c if c.is_alphanumeric() => plain.push(c),
+            _ => {}
         }
     }
     plain
@@ -198,6 +201,7 @@ mod tests {
     fn names_are_compared_by_their_letters() {
         assert_eq!(plain("Buß- und Bettag"), "bussundbettag");
         assert_eq!(plain(" ÜBER_Öl's 3ä. "), "ueberoels3ae");
+        assert_eq!(plain("Ko\u{308}nige"), plain("Könige"));
         assert_eq!(plain("-, "), "");
     }
 
