@@ -1,6 +1,6 @@
 -- Document 02, (a): "Easter is the Sunday after the paschal full moon of the Gregorian computus, 23 April in 2000." The computus as the
 -- books have it, step by step; for instance D. E. Knuth, The Art of Computer Programming, volume 1, section 1.3.2, exercise 14. The steps as
--- far as the full moon hold from 1583 to 9005 (from then on a difference would fall below 0); weekdays are document 01's, so Easter itself
+-- far as the full moon hold from 1583 to 9005 (in 9006 a difference falls below 0); weekdays are document 01's, so Easter itself
 -- only for 1996 to 2099.
 use mathlib.Core.Bool.{cond, _&&_, _||_}
 use Prim.Native.Nat.{ℕ, _+_, _-_, _*_, _/_, _%_}

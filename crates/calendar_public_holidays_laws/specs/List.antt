@@ -47,6 +47,6 @@ unfoldable pub listsFrom : ℕ → ℕ → ℕ → List ℕ
 listsFrom year zero choice = []
 listsFrom year (suc n) choice = yearHolidays year choice ++ listsFrom (year + 1) n choice
 
--- they pass question 9 too, as long as they have no 401st date. Proved in proofs/Question.antt.
+-- those of up to 23 years, at most 391 dates, pass question 9 too. Proved in proofs/Question.antt.
 unfoldable pub JoinedLists : Type 0
 JoinedLists = (year n choice : ℕ) → 1996 ≤ year → year + n ≤ 2100 → n ≤ 23 → holidaysQuestion (listsFrom year n choice) ≡ Pass

@@ -25,6 +25,7 @@ NotByNine v = number v ≡ 9 → ⊥
 pub record GoodList (given : List ℕ) : Type 0 where
   pub passes : holidaysQuestion given ≡ Pass
   pub expanding : (q : Request) → q .holidays ≡ given → NotByNine (expandCheck q)
+  -- the check that `printed` has (program_text)
   pub program : (input : List ℕ) → requestIn input .holidays ≡ given → NotByNine (inputQuestion input then requestCheck (requestIn input))
   pub enquiry : (date : ℕ) → NotByNine (dayCheck date given)
 
@@ -38,6 +39,6 @@ ListGiven =
     (year choice : ℕ) (lent : List ℕ) → report year choice lent .number ≡ 0 →
     (take (report year choice lent .length) (listAfter year choice lent) ≡ yearHolidays year choice) × GoodList (yearHolidays year choice)
 
--- and so are the lists of up to 23 years, one behind the other
+-- and so are the lists of up to 23 years with one choice, one behind the other
 unfoldable pub JoinedGiven : Type 0
 JoinedGiven = (year n choice : ℕ) → 1996 ≤ year → year + n ≤ 2100 → n ≤ 23 → GoodList (listsFrom year n choice)

@@ -33,7 +33,7 @@ pub record WorkedYears : Type 0 where
   -- what no year of the span has: an epact of 25 that is no exception, since the golden number is at most 11 (Easter was 25 April 1886)
   pub noException-1886 : (cycleEpact 1886 ≡ 25) × (epact 1886 ≡ 25)
   pub fullMoon-1886 : numberOf (fullMoon 1886) ≡ 18860418
-  -- and a full moon on 21 March itself, in other centuries: the years from 1583 to 2400 with Easter on 22 March
+  -- and a full moon on 21 March itself, here in six other centuries (Easter is 22 March in these years, but weekdays end with the span)
   pub earliest : Each (λ year. paschalFullMoon year ≡ 21) (1598 ∷ 1693 ∷ 1761 ∷ 1818 ∷ 2285 ∷ 2353 ∷ [])
   -- 23 November 2016 is a Wednesday itself
   pub repentance-2016 : numberOf (repentance 2016) ≡ 20161116

@@ -3,7 +3,7 @@ use std::fs;
 
 use reference::holidays::{federal, regional};
 
-use crate::expected::{dashed, expect_text};
+use crate::expected::{dashed, expect_text, Source};
 use crate::tool::{folder, says, stopped, text, warned, warnings, written};
 
 /// The names of the days of all of Germany, in the order of source document 000, step 4.
@@ -47,7 +47,7 @@ const THEY_ARE: &str = "the regional days are epiphany (Heilige Drei Könige), c
 /// What every list says of the days that it does not have, and one that has not all days of its years.
 const DECEMBER: &str = "# 24 and 31 December are not listed: they count as Saturday by themselves, unless they are Sundays.\n";
 const PART: &str =
-    "# A run that begins earlier (--since) or ends later needs the days of its whole years.\n";
+    "# A run that begins earlier (--since) or ends later needs the days before or behind too.\n";
 
 /// What `--holidays` takes for these regional days.
 fn german(chosen: &[usize]) -> String {
@@ -399,34 +399,64 @@ fn the_longest_list_that_a_file_may_have() {
     warned(&longer, &[warning]);
 }
 
-/// A list of a quarter is not taken for one of a year without a word.
+/// The warnings of `day` with the list of a file.
+fn warned_of(period: &str, path: &str) -> Vec<String> {
+    warnings(&["day", period, "--holidays", path])
+}
+
+/// The list of a quarter is not taken for that of a year without a word.
 #[test]
 fn a_run_beyond_the_list_is_warned_of() {
-    let folder = folder("holiday_list_beyond");
-    let path = |name| text(&folder.join(name));
-    let (quarter, rest) = (path("quarter.txt"), path("rest.txt"));
-    written(&["holidays", "2026-Q2", "-o", &quarter]);
-    written(&["holidays", "2026-07..2027", "-o", &rest]);
-    let day = |period, list: &str| warnings(&["day", period, "--holidays", list]);
+    let path = text(&folder("holiday_list_beyond").join("quarter.txt"));
+    written(&["holidays", "2026-Q2", "-o", &path]);
     for within in ["2026-Q2", "2026-05-01", "2026-04-30..2026-06-30"] {
-        assert_eq!(day(within, &quarter), [""; 0], "{within}");
+        assert_eq!(warned_of(within, &path), [""; 0], "{within}");
     }
-    for (beyond, days) in [
-        ("2026", "2026-01-01 to 2026-12-31"),
-        ("2026-03-31..2026-04-05", "2026-03-31 to 2026-04-05"),
-        ("2026-06-30..2026-07-01", "2026-06-30 to 2026-07-01"),
+    for (beyond, date) in [
+        ("2026", "2026-01-01"),
+        ("2026-03-31..2026-04-05", "2026-03-31"),
+        ("2026-06-30..2026-07-01", "2026-07-01"),
+        ("2026-05..2027", "2026-07-01"),
     ] {
-        let warning = format!("{quarter} has the days from 2026-04-01 to 2026-06-30, as it says itself, and the run goes from {days}: no other day counts as a holiday");
-        assert_eq!(day(beyond, &quarter), [warning]);
+        let warning = format!("{path} has the holidays from 2026-04-01 to 2026-06-30, as it says itself, and the run has {date}: outside them only the dates that it lists count as holidays");
+        assert_eq!(warned_of(beyond, &path), [warning]);
     }
-    let without = format!("{quarter} lists no date of 2027: no day counts as a holiday there");
-    assert_eq!(day("2026-05..2027", &quarter), [without]);
-    let both = [&quarter, &rest].map(|path| fs::read_to_string(path).expect("a list"));
-    let joined = path("joined.txt");
-    fs::write(&joined, both.concat()).expect("the lists joined");
-    assert_eq!(day("2026-04-01..2027-12-31", &joined), [""; 0]);
-    let warning = format!("{joined} has the days from 2026-04-01 to 2026-06-30, from 2026-07-01 to 2027-12-31, as it says itself, and the run goes from 2026-03-31 to 2027-12-31: no other day counts as a holiday");
-    assert_eq!(day("2026-03-31..2027", &joined), [warning]);
+    let source = Source::usual(&folder("holiday_list_beyond_run"));
+    let run = ["sums", "G0", "2026-Q2", "3500", "--since", "2026-03-31"];
+    let options = ["--profiles", &source.profiles, "--holidays", &path];
+    let found = warnings(&[&run[..], &options].concat());
+    assert!(
+        found.len() == 1 && found[0].contains(" the run has 2026-03-31: "),
+        "{found:?}"
+    );
+}
+
+/// Lists put together have all their days, and what is missing between them is seen.
+#[test]
+fn lists_that_are_put_together_have_all_their_days() {
+    let folder = folder("holiday_list_together");
+    let path = text(&folder.join("holidays.txt"));
+    let put_together = |periods: &[&str]| {
+        let lists = periods.iter().map(|period| written(&["holidays", period]));
+        fs::write(&path, lists.collect::<String>()).expect("the lists together");
+    };
+    put_together(&["2026-Q2", "2026-07..2027"]);
+    assert_eq!(warned_of("2026-04-01..2027-12-31", &path), [""; 0]);
+    put_together(&["2026-Q1", "2026-Q4"]);
+    let warning = format!("{path} has the holidays from 2026-01-01 to 2026-03-31 and from 2026-10-01 to 2026-12-31, as it says itself, and the run has 2026-04-01: outside them only the dates that it lists count as holidays");
+    assert_eq!(warned_of("2026", &path), [warning]);
+}
+
+/// A month without a holiday has its list; a list that says nothing of its days is asked for a date of each year.
+#[test]
+fn a_list_without_a_date_is_one_all_the_same() {
+    let path = text(&folder("holiday_list_empty").join("february.txt"));
+    warned(&["holidays", "2026-02", "-o", &path], &[]);
+    assert_eq!(warned_of("2026-02", &path), [""; 0]);
+    fs::write(&path, "2026-01-01\n").expect("a list without a first line");
+    assert_eq!(warned_of("2026", &path), [""; 0]);
+    let warning = format!("{path} lists no date of 2027: no day counts as a holiday there");
+    assert_eq!(warned_of("2026..2027", &path), [warning]);
 }
 
 /// What is written is read by `--holidays`, remarks and names and all.

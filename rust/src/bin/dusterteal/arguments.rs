@@ -233,7 +233,7 @@ impl Grammar {
                 _ => format!("its options are {}", names.join(", ")),
             };
             let hint = match name {
-                "--state" | "--regional" => {
+                "--state" | "--regional" if names.contains(&"--holidays") => {
                     "; `dusterteal holidays` takes it and writes a list, which --holidays reads"
                 }
                 _ => "",

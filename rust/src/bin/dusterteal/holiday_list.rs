@@ -63,7 +63,7 @@ fn about_days(period: Period) -> String {
         "# 24 and 31 December are not listed: they count as Saturday by themselves, unless they are Sundays.\n",
     );
     if !period.is_whole_years() {
-        text += "# A run that begins earlier (--since) or ends later needs the days of its whole years.\n";
+        text += "# A run that begins earlier (--since) or ends later needs the days before or behind too.\n";
     }
     text
 }
@@ -89,12 +89,14 @@ fn expect_years(word: &str, period: Period) -> Result<(), Failure> {
 }
 
 fn refused(word: &str, year: u32, refusal: Refusal) -> Failure {
-    match refusal.kind {
-        RefusalKind::BadYear => Failure::Refused(format!(
-            "PERIOD {word}: {year} lies outside the years 1996 to 2099 (question 14, place 0)"
-        )),
-        _ => german::fault(refusal),
+    let Refusal { kind, place } = refusal;
+    if kind != RefusalKind::BadYear {
+        return german::fault(refusal);
     }
+    let number = kind.number();
+    Failure::Refused(format!(
+        "PERIOD {word}: {year} lies outside the years 1996 to 2099 (question {number}, place {place})"
+    ))
 }
 
 /// What may be meant by a text that is no regional day.

@@ -179,35 +179,39 @@ impl Holidays {
         found.ok().map(|at| self.listed[at].name.as_str())
     }
 
-    /// Warns of the days of a run that the list of a file does not know: years without a listed date, or else days outside the
-    /// periods that the file says it has.
+    /// Warns of days of a run that the list of a file does not know: those outside the periods that it says it has, or, where it says
+    /// nothing, years without a listed date.
     pub fn warn_of_gaps(&self, run: Period) {
         let Some(source) = self.file() else { return };
-        let name = &source.name;
-        let years = self.empty_years(run);
-        if !years.is_empty() {
-            let years = in_words(&years);
-            warn(&format!(
-                "{name} lists no date of {years}: no day counts as a holiday there"
-            ));
-        } else if !self.has_days_of(run) {
-            let words = |Period { first, last }: &Period| format!("{first} to {last}");
-            let said: Vec<String> = self.said.iter().map(words).collect();
-            warn(&format!(
-                "{name} has the days from {}, as it says itself, and the run goes from {}: no other day counts as a holiday",
-                said.join(", from "),
-                words(&run)
-            ));
+        let gap = match self.said.is_empty() {
+            true => self.years_without_a_date(run),
+            false => self.day_outside(run),
+        };
+        if let Some(gap) = gap {
+            warn(&format!("{} {gap}", source.name));
         }
     }
 
-    /// Whether the file says that it has the first and the last day of a run, or says nothing.
-    fn has_days_of(&self, run: Period) -> bool {
-        let has = |date: Date| {
+    /// What is said of a day of a run that lies outside the periods.
+    fn day_outside(&self, run: Period) -> Option<String> {
+        let is_inside = |date: &Date| {
             let mut periods = self.said.iter();
-            periods.any(|period| (period.first..=period.last).contains(&date))
+            periods.any(|period| (period.first..=period.last).contains(date))
         };
-        self.said.is_empty() || has(run.first) && has(run.last)
+        let date = run.days().find(|date| !is_inside(date))?;
+        let words = |Period { first, last }: &Period| format!("from {first} to {last}");
+        let periods: Vec<String> = self.said.iter().map(words).collect();
+        Some(format!(
+            "has the holidays {}, as it says itself, and the run has {date}: outside them only the dates that it lists count as holidays",
+            periods.join(" and ")
+        ))
+    }
+
+    fn years_without_a_date(&self, run: Period) -> Option<String> {
+        let years = self.empty_years(run);
+        let words = in_words(&years);
+        (!years.is_empty())
+            .then(|| format!("lists no date of {words}: no day counts as a holiday there"))
     }
 
     fn empty_years(&self, period: Period) -> Vec<u32> {

@@ -73,11 +73,13 @@ fn windows_1252(byte: u8) -> char {
     }
 }
 
-/// The lines that have content, trimmed, with their numbers from 1. Blank lines and lines that begin with `#` are passed over.
+/// The lines that have content, trimmed, with their numbers from 1. Blank lines and lines that begin with `#` are passed over, also in
+/// the quotes that a spreadsheet puts around them.
 pub fn content(text: &str) -> impl Iterator<Item = (usize, &str)> {
+    let is_remark = |line: &str| line.trim_start_matches('"').starts_with('#');
     (1..)
         .zip(text.lines().map(str::trim))
-        .filter(|(_, line)| !line.is_empty() && !line.starts_with('#'))
+        .filter(move |(_, line)| !line.is_empty() && !is_remark(line))
 }
 
 /// A name as names are compared: its letters and digits alone, in small letters, with German ones spelt out. The two dots of an umlaut
@@ -195,6 +197,7 @@ mod tests {
         let lines = |text| content(text).collect::<Vec<_>>();
         assert_eq!(lines(""), []);
         assert_eq!(lines("a\r\n \r\n #b\r\n c \n#"), [(1, "a"), (4, "c")]);
+        assert_eq!(lines("\"# a \"\"b\"\"\"\n\"c\""), [(2, "\"c\"")]);
     }
 
     #[test]
