@@ -1,7 +1,7 @@
 -- Document 02, (a): "For a year and a choice of the regional days, give the holiday list and its length."
 use mathlib.Core.Bool.{cond}
 use mathlib.Core.List.{List, [], _∷_, _++_, map}
-use Prim.Native.Nat.{ℕ, _/_, _%_}
+use Prim.Native.Nat.{ℕ, zero, suc, _+_, _/_, _%_}
 use lib.Dec.{ltb, eqb}
 use Rattle.calendar_dates.specs.Dates.{numberOf}
 use Rattle.calendar_public_holidays.specs.Days.{federalDays, regionalDays}
@@ -29,3 +29,8 @@ inOrder (date ∷ dates) = inserted date (inOrder dates)
 -- the holiday list
 unfoldable pub yearHolidays : ℕ → ℕ → List ℕ
 yearHolidays year choice = inOrder (chosenDays year choice)
+
+-- the lists of n years one behind the other, from a year on, for a period that touches several
+unfoldable pub listsFrom : ℕ → ℕ → ℕ → List ℕ
+listsFrom year zero choice = []
+listsFrom year (suc n) choice = yearHolidays year choice ++ listsFrom (year + 1) n choice

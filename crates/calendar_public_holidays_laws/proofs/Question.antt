@@ -16,9 +16,8 @@ use Rattle.refusal.proofs.Questions.{ask-yes, each-pass}
 use Rattle.calendar_dates.specs.Dates.{dateOf, isDate}
 use Rattle.calendar_holidays.specs.Holidays.{holidayQuestion, holidaysQuestion}
 use Rattle.calendar_movable_days.specs.Inside.{InSpan}
-use Rattle.calendar_public_holidays.specs.YearHolidays.{chosenDays, yearHolidays}
+use Rattle.calendar_public_holidays.specs.YearHolidays.{chosenDays, yearHolidays, listsFrom}
 use Rattle.calendar_public_holidays.proofs.InOrder.{order-rising}
-use Rattle.calendar_public_holidays_laws.specs.List.{listsFrom, JoinedLists}
 use Rattle.calendar_public_holidays_laws.proofs.Length.{at-most-17, at-least-10}
 use Rattle.calendar_public_holidays_laws.proofs.Entries.{DateOf, each-of-year}
 
@@ -112,7 +111,7 @@ lists-length year zero choice = omega arith
 lists-length year (suc n) choice =
     omega (arith, length-append (yearHolidays year choice) (listsFrom (year + 1) n choice), at-most-17 year choice, lists-length (year + 1) n choice)
 
-pub joined-pass : JoinedLists
-unfolding JoinedLists
+-- those of up to 23 years have at most 391 dates
+pub joined-pass : (year n choice : ℕ) → 1996 ≤ year → year + n ≤ 2100 → n ≤ 23 → holidaysQuestion (listsFrom year n choice) ≡ Pass
 joined-pass year n choice a b h =
     passes-9 (listsFrom year n choice) (omega (arith, lists-length year n choice)) (lists-dates year n choice a b) (lists-rising year n choice a b)

@@ -1,8 +1,8 @@
 -- What the holiday list of a year has, in every year of the span and for every choice. Proved in proofs/List.antt.
 use mathlib.Core.Path.{_≡_}
 use mathlib.Core.Bool.{Bool, _&&_, _||_}
-use mathlib.Core.List.{List, [], _++_, map}
-use Prim.Native.Nat.{ℕ, zero, suc, _+_, _/_, _%_, _^_, _≤_}
+use mathlib.Core.List.{map}
+use Prim.Native.Nat.{ℕ, _/_, _%_, _^_, _≤_}
 use lib.Dec.{eqb}
 use lib.ListN.{length}
 use Rattle.lists.specs.Lists.{Rising}
@@ -41,12 +41,3 @@ pub record ListFacts (year choice : ℕ) : Type 0 where
 
 unfoldable pub EveryList : Type 0
 EveryList = (year choice : ℕ) → 1996 ≤ year → year ≤ 2099 → ListFacts year choice
-
--- the lists of n years one behind the other, from a year on, for a period that touches several
-unfoldable pub listsFrom : ℕ → ℕ → ℕ → List ℕ
-listsFrom year zero choice = []
-listsFrom year (suc n) choice = yearHolidays year choice ++ listsFrom (year + 1) n choice
-
--- those of up to 23 years, at most 391 dates, pass question 9 too. Proved in proofs/Question.antt.
-unfoldable pub JoinedLists : Type 0
-JoinedLists = (year n choice : ℕ) → 1996 ≤ year → year + n ≤ 2100 → n ≤ 23 → holidaysQuestion (listsFrom year n choice) ≡ Pass

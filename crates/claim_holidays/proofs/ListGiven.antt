@@ -13,9 +13,8 @@ use Rattle.refusal.specs.Questions.{refusalNumber}
 use Rattle.refusal.proofs.Questions.{then-first, number-above-0}
 use Rattle.calendar_holidays.specs.Holidays.{holidaysQuestion}
 use Rattle.calendar_movable_days.specs.Inside.{InSpan}
-use Rattle.calendar_public_holidays.specs.YearHolidays.{yearHolidays}
+use Rattle.calendar_public_holidays.specs.YearHolidays.{yearHolidays, listsFrom}
 use Rattle.calendar_public_holidays.proofs.InOrder.{contradiction}
-use Rattle.calendar_public_holidays_laws.specs.List.{listsFrom, JoinedLists}
 use Rattle.calendar_public_holidays_laws.proofs.Question.{list-passes, joined-pass}
 use Rattle.call_holidays.specs.Holidays.{holidaysCheck, answered, holidaysAnswer, listAfter, reported}
 use Rattle.call_holidays.proofs.Questions.{year-passed}
@@ -60,5 +59,5 @@ list-given year choice lent h =
     )
 
 pub joined-given : JoinedGiven
-unfolding JoinedGiven JoinedLists
+unfolding JoinedGiven
 joined-given year n choice a b h = good-list (listsFrom year n choice) (joined-pass year n choice a b h)

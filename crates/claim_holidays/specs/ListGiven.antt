@@ -8,8 +8,7 @@ use Rattle.refusal.specs.declared.Verdict.{Verdict}
 use Rattle.refusal.specs.declared.Verdict.the-variants.{Pass}
 use Rattle.refusal.specs.Questions.{number, _then_}
 use Rattle.calendar_holidays.specs.Holidays.{holidaysQuestion}
-use Rattle.calendar_public_holidays.specs.YearHolidays.{yearHolidays}
-use Rattle.calendar_public_holidays_laws.specs.List.{listsFrom}
+use Rattle.calendar_public_holidays.specs.YearHolidays.{yearHolidays, listsFrom}
 use Rattle.call_holidays.specs.declared.HolidaysReport.{HolidaysReport}
 use Rattle.call_holidays.specs.Holidays.{holidaysAnswer, listAfter, reported}
 use Rattle.call_day.specs.Enquiry.{dayCheck}
@@ -39,6 +38,6 @@ ListGiven =
     (year choice : ℕ) (lent : List ℕ) → report year choice lent .number ≡ 0 →
     (take (report year choice lent .length) (listAfter year choice lent) ≡ yearHolidays year choice) × GoodList (yearHolidays year choice)
 
--- and so are the lists of up to 23 years with one choice, one behind the other
+-- and so are the lists of up to 23 years with one choice, one behind the other, which have at most 391 dates
 unfoldable pub JoinedGiven : Type 0
 JoinedGiven = (year n choice : ℕ) → 1996 ≤ year → year + n ≤ 2100 → n ≤ 23 → GoodList (listsFrom year n choice)
