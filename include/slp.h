@@ -90,7 +90,7 @@ struct slp_comparison_report {
     uint32_t alike;
 };
 
-/* What document 01 says of a day. */
+/* What documents 01 and 02 say of a day. */
 struct slp_day_report {
     uint32_t number;
     size_t place;
@@ -152,8 +152,9 @@ struct slp_check_report slp_write(const uint8_t *codes, size_t codes_length, con
 struct slp_comparison_report slp_compare(const uint8_t *file, size_t file_length, uint8_t first, uint8_t second);
 
 /*
- * Weekday, day of the year, season, day type and value count of `date`. Questions 7 (place 0) and 9. Writes nothing.
- * `holidays` is not NULL, also where the list is empty.
+ * Weekday, day of the year, season, day type and value count of `date`. The day type is settled in this order: a Sunday is a
+ * Sunday; a date that is listed in `holidays` counts as Sunday, also 24 and 31 December; unlisted, those two count as Saturday; then
+ * Saturdays and weekdays. Questions 7 (place 0) and 9. Writes nothing. `holidays` is not NULL, also where the list is empty.
  */
 struct slp_day_report slp_day(uint32_t date, const uint32_t *holidays, size_t holidays_length);
 
@@ -180,9 +181,9 @@ struct slp_response_report slp_respond(const uint8_t *input, size_t input_length
  * Germany keeps (New Year, Good Friday, Easter Sunday and Monday, 1 May, Ascension Day, Whit Sunday and Monday, 3 October, 25 and
  * 26 December), and the regional days whose bits are set in `choice`: SLP_EPIPHANY (bit 0), SLP_CORPUS_CHRISTI (1), SLP_ASSUMPTION
  * (2), SLP_REFORMATION (3), SLP_ALL_SAINTS (4), SLP_REPENTANCE (5), joined by |; 0 for none. The dates rise, and one that is met twice
- * (1 May 2008, Ascension Day too) is listed once, so slp_day and slp_expand take the list. 24 and 31 December are not in it: they
- * count as Saturday by themselves, where they are no Sundays. Questions 14, 15 and 16 (place: the entries needed; SLP_MOST_HOLIDAYS
- * is always enough).
+ * (1 May 2008, Ascension Day too) is listed once, so slp_day and slp_expand take the list. 24 and 31 December are no
+ * public holidays and not in it, so that they count as Saturday where they are no Sundays; where an agreement makes one of them a full
+ * holiday, put it into the list, in its place. Questions 14, 15 and 16 (place: the entries needed; SLP_MOST_HOLIDAYS is always enough).
  */
 struct slp_holidays_report slp_holidays(uint32_t year, uint8_t choice, uint32_t *list, size_t list_length);
 

@@ -134,8 +134,8 @@ impl Iterator for Days<'_> {
         }
         let day_type = match self.weekday {
             6 => 2,
-            _ if place.eve => 1,
             _ if listed => 2,
+            _ if place.eve => 1,
             weekday => usize::from(weekday == 5),
         };
         let laid = Laid {

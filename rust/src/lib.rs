@@ -68,19 +68,19 @@ pub enum Season {
     Transition,
 }
 
-/// A day type of the profiles, settled in document 01's order: a Sunday is a Sunday; 24 and 31 December count as Saturday; a
-/// listed holiday counts as Sunday; then Saturdays and weekdays.
+/// A day type of the profiles, settled in this order (document 01 as document 02, (b), changes it): a Sunday is a Sunday; a listed
+/// date counts as Sunday, also 24 and 31 December; unlisted, those two count as Saturday; then Saturdays and weekdays.
 #[derive(Debug, Clone, Copy, PartialEq, Eq, Hash)]
 pub enum DayType {
-    /// Monday to Friday, where the day is neither 24 or 31 December nor a listed holiday.
+    /// Monday to Friday, where the day is neither listed nor 24 or 31 December.
     Weekday,
-    /// 24 and 31 December, listed or not, where they are no Sundays; other Saturdays that are not listed.
+    /// Saturdays that are not listed; unlisted 24 and 31 December, where they are no Sundays.
     Saturday,
-    /// Sundays; listed holidays but 24 and 31 December.
+    /// Sundays and listed dates.
     Sunday,
 }
 
-/// What document 01 says of a day.
+/// What documents 01 and 02 say of a day.
 #[derive(Debug, Clone, Copy, PartialEq, Eq, Hash)]
 pub struct Day {
     /// 1 Monday to 7 Sunday.
@@ -232,6 +232,10 @@ pub fn compare(file: &[u8], first: Group, second: Group) -> Result<bool, Refusal
 /// let day = slp::day(20000326, &[])?;
 /// assert_eq!((day.weekday, day.t, day.value_count), (7, 86, 92));
 /// assert_eq!((day.season, day.day_type), (slp::Season::Transition, slp::DayType::Sunday));
+///
+/// // Christmas Eve 1999 is a Friday. It counts as Saturday, and where it is listed as Sunday.
+/// assert_eq!(slp::day(19991224, &[19991225, 19991226])?.day_type, slp::DayType::Saturday);
+/// assert_eq!(slp::day(19991224, &[19991224, 19991225, 19991226])?.day_type, slp::DayType::Sunday);
 /// # Ok::<(), slp::Refusal>(())
 /// ```
 pub fn day(date: u32, holidays: &[u32]) -> Result<Day, Refusal> {
@@ -323,7 +327,8 @@ pub fn respond(input: &[u8], page: &mut [u8]) -> Result<usize, Refusal> {
 /// Germany keeps, and these regional ones. Questions 14 and 16. A list of [`MOST_HOLIDAYS`] entries is always long enough.
 ///
 /// The dates rise, and one that is met twice is listed once, as 1 May 2008, which is Ascension Day too. So the list is one that
-/// [`day`] and [`expand`] take. 24 and 31 December are not in it: they count as Saturday by themselves, where they are no Sundays.
+/// [`day`] and [`expand`] take. 24 and 31 December are no public holidays and not in it, so that they count as Saturday where they
+/// are no Sundays; where an agreement makes one of them a full holiday, put it into the list, in its place.
 ///
 /// ```
 /// let mut list = [0; slp::MOST_HOLIDAYS];

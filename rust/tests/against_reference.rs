@@ -111,6 +111,7 @@ fn compare() {
 fn day() {
     let mut tally = Tally::default();
     let mut kinds = BTreeSet::new();
+    let (mut listed, mut unlisted) = (0, 0);
     for seed in 0..INPUTS {
         let mut draw = Draw::new(5_000_000 + seed);
         let index = draw::day_index(&mut draw);
@@ -118,6 +119,10 @@ fn day() {
         let holidays = draw::list(&mut draw, index);
         let answer = agreed::day(date, &holidays, &format!("seed {seed}"));
         tally.note(&answer);
+        if answer.is_ok() && draw::is_eve(date) {
+            listed += u32::from(holidays.contains(&date));
+            unlisted += u32::from(!holidays.contains(&date));
+        }
         kinds.extend(answer.map(|day| (day.season, day.day_type, day.values)));
     }
     tally.expect("day", &[7, 9], 50);
@@ -128,6 +133,8 @@ fn day() {
         11,
         "nine kinds of day and two clock changes: {kinds:?}"
     );
+    println!("day: 24 or 31 December, no Sunday, {listed} listed, {unlisted} not");
+    assert!(listed >= 100 && unlisted >= 100, "{listed} {unlisted}");
 }
 
 #[test]
@@ -152,7 +159,7 @@ fn needed(first: usize, last: usize) -> usize {
 #[test]
 fn expand() {
     let mut tally = Tally::default();
-    let (mut households, mut long) = (0, 0);
+    let (mut households, mut long, mut eves) = (0, 0, 0);
     for seed in 0..INPUTS {
         let mut draw = Draw::new(6_000_000 + seed);
         let (file, codes) = draw::file(&mut draw, 15);
@@ -174,14 +181,20 @@ fn expand() {
         if let Ok(made) = answer {
             households += u32::from(request.group == 0);
             long += u32::from(made.count > 130_000);
+            let within = |date: &&u32| (request.first..=request.last).contains(date);
+            let mut listed = holidays.iter().filter(within);
+            eves += u32::from(listed.any(|&date| draw::is_eve(date)));
         }
     }
     tally.expect("expand", &[1, 2, 3, 4, 5, 6, 7, 8, 9, 10, 11, 12], 50);
     tally.expect_places(7, &[0, 1]);
     tally.expect_many_places(9, 50);
     tally.expect_many_places(12, 10);
-    println!("expand: {households} accepted for households, {long} of nearly four years or more");
-    assert!(households > 1_000 && long > 50, "{households} {long}");
+    println!("expand: {households} accepted for households, {long} of nearly four years or more, {eves} with a listed 24 or 31 December");
+    assert!(
+        households > 1_000 && long > 50 && eves > 100,
+        "{households} {long} {eves}"
+    );
 }
 
 /// Households: every value on every day of a leap year. With A = 40,000 a figure is the power Q itself.

@@ -253,7 +253,10 @@ fn the_commands_of_the_readme_run() {
         .collect();
     assert_eq!(
         subcommands,
-        ["series", "sums", "days", "explain", "day", "holidays", "check", "compare"]
+        [
+            "series", "sums", "days", "explain", "day", "holidays", "check", "compare", "days",
+            "days"
+        ]
     );
     for command in &commands {
         let words: Vec<&str> = command.split(' ').collect();
@@ -336,4 +339,60 @@ fn the_years_listing_and_request_are_made_anew() {
     assert!(listing == stored_text("examples/year_2000.txt"));
     let outcome = tool::run(&[&["request"], &year[..]].concat());
     assert!(outcome.written == stored("examples/year_2000.request"));
+}
+
+/// The listing of a request of `examples/christmas_eve`, as stored, as the tool and the program make it anew, and as the independent
+/// implementation has it.
+fn december_1999(list: &str) -> String {
+    let holidays = format!("examples/christmas_eve/{list}.txt");
+    let arguments = [
+        "G0",
+        "1999-12-23..1999-12-31",
+        "40000",
+        "--profiles",
+        "examples/made_up.csv",
+        "--holidays",
+        &holidays,
+    ];
+    let listing = stored_text(&format!("examples/christmas_eve/{list}.listing"));
+    assert_eq!(written(&[&["days"], &arguments[..]].concat()), listing);
+    let request = format!("examples/christmas_eve/{list}.request");
+    let made = tool::run(&[&["request"], &arguments[..]].concat());
+    assert!(made.written == stored(&request), "{list}");
+    let program = Command::new(repository::path("target/bin/slp"))
+        .stdin(fs::File::open(repository::path(&request)).unwrap())
+        .output()
+        .expect("target/bin/slp runs: `rt check slp` builds it");
+    assert_eq!(String::from_utf8(program.stdout).unwrap(), listing);
+    assert_eq!(reference::program::text(&made.written), listing);
+    listing
+}
+
+/// 24 and 31 December 1999 are Fridays: a works agreement's 24 December makes that day a Sunday, and the total less. No other line
+/// changes: for 40,000 kWh a year the carry is always 0.
+#[test]
+fn a_works_agreements_christmas_eve_changes_that_day() {
+    let (public, agreed) = ("public_holidays", "works_agreement");
+    let [without, with] = [public, agreed].map(december_1999);
+    let day_types = |listing: &str| {
+        let days = listing.lines().filter(|line| line.starts_with("1999"));
+        let day_types: Vec<&str> = days.map(|line| &line[8..13]).collect();
+        day_types.join(", ")
+    };
+    assert_eq!(
+        day_types(&without),
+        "23 W1, 24 W2, 25 W3, 26 W3, 27 W1, 28 W1, 29 W1, 30 W1, 31 W2"
+    );
+    assert_eq!(
+        day_types(&with),
+        "23 W1, 24 W3, 25 W3, 26 W3, 27 W1, 28 W1, 29 W1, 30 W1, 31 W2"
+    );
+    let lines = without.lines().zip(with.lines());
+    let differ: Vec<(&str, &str)> = lines.filter(|(a, b)| a != b).collect();
+    let [(saturday, sunday), (_, total)] = differ[..] else {
+        panic!("{differ:?}");
+    };
+    assert!(total.starts_with("total 9 864 "), "{total}");
+    let readme = stored_text("README.md");
+    assert!(readme.contains(&format!("\n    {saturday}\n    {sunday}\n")));
 }

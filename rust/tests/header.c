@@ -62,6 +62,9 @@ static void day_call(void)
     expect("season", day.season, 3);
     expect("day type", day.day_type, 3);
     expect("value count", day.value_count, 92);
+    static const uint32_t holidays[] = {19991224, 19991225, 19991226};
+    expect("Christmas Eve, not listed", slp_day(19991224, holidays + 1, 2).day_type, 2);
+    expect("Christmas Eve, listed", slp_day(19991224, holidays, 3).day_type, 3);
 }
 
 static void listing(void)

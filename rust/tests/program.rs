@@ -18,7 +18,7 @@ use std::thread::sleep;
 use std::time::Duration;
 
 use draw::Draw;
-use program_input::{constant_file, dates, drawn_input, input, LONGEST_INPUT};
+use program_input::{constant_file, dates, drawn_input, has_a_years_end, input, LONGEST_INPUT};
 use tally::Tally;
 
 const INPUTS: u64 = 1_500;
@@ -73,16 +73,11 @@ fn expect_agreement(input: &[u8], what: &str) -> String {
 
 // Random inputs.
 
-/// Whether one of the lines is that of a 24 or 31 December which is no Sunday.
-fn has_a_years_end(text: &str) -> bool {
-    let mut lines = text.lines();
-    lines.any(|line| line.contains("-12-24 W2") || line.contains("-12-31 W2"))
-}
-
 #[test]
 fn random_inputs_agree() {
     let mut tally = Tally::default();
-    let (mut longest, mut short_days, mut long_days, mut ends) = (0, 0, 0, 0);
+    let (mut longest, mut short_days, mut long_days) = (0, 0, 0);
+    let (mut unlisted, mut listed) = (0, 0);
     for seed in 0..INPUTS {
         let input = drawn_input(&mut Draw::new(7_000_000 + seed));
         let text = expect_agreement(&input, &format!("seed {seed}"));
@@ -90,29 +85,42 @@ fn random_inputs_agree() {
         longest += u32::from(text.lines().count() == 1_462);
         short_days += u32::from(text.contains(" T3 92 "));
         long_days += u32::from(text.contains(" T3 100 "));
-        ends += u32::from(has_a_years_end(&text));
+        unlisted += u32::from(has_a_years_end(&text, "W2"));
+        listed += u32::from(has_a_years_end(&text, "W3"));
     }
     tally.expect("program", &[1, 2, 3, 4, 5, 6, 7, 8, 9, 10, 13], 10);
     tally.expect_places(7, &[0, 1]);
     tally.expect_many_places(9, 10);
     tally.expect_many_places(5, 10);
     tally.expect_places(13, &[0]);
-    println!("program: {longest} of 1,461 days; with 92 values {short_days}, 100 {long_days}, a year's end {ends}");
-    assert!([longest, short_days, long_days, ends]
+    println!("program: {longest} of 1,461 days; with 92 values {short_days}, 100 {long_days}, a year's end {unlisted}, a listed one {listed}");
+    assert!([longest, short_days, long_days, unlisted, listed]
         .iter()
         .all(|&n| n >= 20));
 }
 
 // Inputs that chance draws seldom.
 
-/// All days from 20 December on are listed: 24 and 31 December count as Saturday where they are no Sunday.
+/// From 20 December on all days are listed, then all but 24 and 31 December: those two count as Sunday, and unlisted as Saturday where
+/// they are no Sundays (both of them, or neither).
 #[test]
 fn listed_year_ends_agree() {
     let file = constant_file(10, 1001);
     for year in 1996..=2099 {
         let (first, last) = (10_000 * year + 1220, 10_000 * year + 1231);
-        let input = input(1, [first, last, 1000], &dates(first, 12), &file);
-        expect_agreement(&input, &format!("{year}"));
+        let all = dates(first, 12);
+        let other = |date: &u32| ![1224, 1231].contains(&(date % 10_000));
+        let others: Vec<u32> = all.iter().copied().filter(other).collect();
+        for (list, day_type, not) in [(all, "W3", "W2"), (others, "W2", "W3")] {
+            let input = input(1, [first, last, 1000], &list, &file);
+            let text = expect_agreement(&input, &format!("{year} {list:?}"));
+            assert_eq!(
+                has_a_years_end(&text, day_type),
+                draw::is_eve(10_000 * year + 1224),
+                "{text}"
+            );
+            assert!(!has_a_years_end(&text, not), "{text}");
+        }
     }
     let input = input(
         1,
@@ -122,7 +130,7 @@ fn listed_year_ends_agree() {
     );
     assert_eq!(
         text_for(&input),
-        "1999-12-23 W3 96 2402\n1999-12-24 W2 96 2402\n1999-12-25 W3 96 2403\ntotal 3 288 7207 8000\n"
+        "1999-12-23 W3 96 2402\n1999-12-24 W3 96 2402\n1999-12-25 W3 96 2403\ntotal 3 288 7207 8000\n"
     );
 }
 

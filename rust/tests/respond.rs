@@ -11,7 +11,7 @@ mod program_input;
 mod tally;
 
 use draw::Draw;
-use program_input::{constant_file, dates, drawn_input, input};
+use program_input::{constant_file, dates, drawn_input, has_a_years_end, input};
 use tally::Tally;
 
 const INPUTS: u64 = 20_000;
@@ -20,12 +20,15 @@ const INPUTS: u64 = 20_000;
 #[test]
 fn random_inputs_agree() {
     let (mut texts, mut answers) = (Tally::default(), Tally::default());
-    let mut just_enough = 0;
+    let (mut just_enough, mut unlisted, mut listed) = (0, 0, 0);
     for seed in 0..INPUTS {
         let mut draw = Draw::new(8_000_000 + seed);
         let input = drawn_input(&mut draw);
         let listing = reference::program::listing(&input);
-        let needed = reference::program::text(&input).len();
+        let text = reference::program::text(&input);
+        unlisted += u32::from(has_a_years_end(&text, "W2"));
+        listed += u32::from(has_a_years_end(&text, "W3"));
+        let needed = text.len();
         let mut page = vec![draw.byte(); draw::output_length(&mut draw, needed)];
         let answer = agreed::respond(&input, &mut page, &format!("seed {seed}"));
         just_enough += u32::from(page.len() == needed && answer.is_ok());
@@ -40,6 +43,8 @@ fn random_inputs_agree() {
     answers.expect("respond", &[12], 100);
     answers.expect_many_places(12, 100);
     assert!(just_enough >= 1_000, "{just_enough}");
+    println!("respond: 24 or 31 December, no Sunday, {listed} listed, {unlisted} not");
+    assert!(listed >= 200 && unlisted >= 200, "{listed} {unlisted}");
 }
 
 /// Document 01's listing, two refusals and a listing of the largest figures, each on a page of just its length, and of one byte less.

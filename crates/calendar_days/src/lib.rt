@@ -58,14 +58,14 @@ pub fn day_type_when(d: Date, weekday: u32, holiday: bool) -> DayType
     if weekday == 7 {
         return DayType::Sunday;
     }
+    if holiday {
+        return DayType::Sunday;
+    }
     if month_day == 1224 {
         return DayType::Saturday;
     }
     if month_day == 1231 {
         return DayType::Saturday;
-    }
-    if holiday {
-        return DayType::Sunday;
     }
     if weekday == 6 {
         return DayType::Saturday;

@@ -1,4 +1,5 @@
 pub mod Dates
+pub mod DayTypes
 pub mod Positions
 pub mod Order
 pub mod Periods

@@ -1,3 +1,4 @@
 pub mod Dates
+pub mod DayTypes
 pub mod Positions
 pub mod Periods

@@ -1,10 +1,11 @@
--- The dates of a year's list are dates of that year. Assumes nothing.
+-- The dates of a year's list are dates of that year, and none is 24 or 31 December. Assumes nothing.
 use mathlib.Core.Path.{_≡_, refl}
-use mathlib.Core.Bool.{Bool, true, false, cond, _&&_}
+use mathlib.Core.Bool.{Bool, true, false, cond, not, _&&_}
 use mathlib.Core.List.{List, [], _∷_, _++_, map}
 use Prim.Native.Nat.{ℕ, _/_, _%_}
 use lib.Dec.{T, ltb, eqb, eqb→eq}
 use mir.Facts.{and-yes}
+use borrow.Author.Tests.{eqb-false}
 use Rattle.lists.specs.Lists.{Each}
 use Rattle.lists.proofs.Members.{each-append}
 use Rattle.calendar_dates.specs.declared.Date.{Date}
@@ -16,14 +17,16 @@ use Rattle.calendar_movable_days.proofs.Years.{in-year}
 use Rattle.calendar_public_holidays.specs.Days.{federalDays, regionalDays}
 use Rattle.calendar_public_holidays.specs.YearHolidays.{chosen, chosenDays, inserted, inOrder, yearHolidays}
 
--- a number that is a date of the span, and one of the year
+-- a number that is a date of the span, one of the year, and neither 24 nor 31 December
 pub record DateOf (year n : ℕ) : Type 0 where
   pub isReal : isDate (dateOf n) ≡ true
   pub ofYear : n / 10_000 ≡ year
+  pub noChristmasEve : n % 10_000 ≡ 1224 → ⊥
+  pub noNewYearsEve : n % 10_000 ≡ 1231 → ⊥
 
 -- Every day of a year is one: computed year by year.
 test : ℕ → ℕ → Bool
-test year n = isDate (dateOf n) && eqb (n / 10_000) year
+test year n = isDate (dateOf n) && eqb (n / 10_000) year && (not (eqb (n % 10_000) 1224) && not (eqb (n % 10_000) 1231))
 
 all : ℕ → List Date → Bool
 all year [] = true
@@ -36,12 +39,27 @@ module _ (year : ℕ) where
   tested : (n : ℕ) → T (test year n) → DateOf year n
   unfolding test
   tested n t =
-      let parts = and-yes (isDate (dateOf n)) (eqb (n / 10_000) year) t in
-      record { isReal = holds (isDate (dateOf n)) (parts .0); ofYear = eqb→eq (n / 10_000) year (parts .1) }
+      let real = isDate (dateOf n) in
+      let its-year = eqb (n / 10_000) year in
+      let christmas = eqb (n % 10_000) 1224 in
+      let new-year = eqb (n % 10_000) 1231 in
+      let parts = and-yes (real && its-year) (not christmas && not new-year) t in
+      let date = and-yes real its-year (parts .0) in
+      let eves = and-yes (not christmas) (not new-year) (parts .1) in
+      record {
+        isReal = holds real (date .0);
+        ofYear = eqb→eq (n / 10_000) year (date .1);
+        noChristmasEve = eqb-false (n % 10_000) 1224 (fails christmas (eves .0));
+        noNewYearsEve = eqb-false (n % 10_000) 1231 (fails new-year (eves .1));
+      }
     where
       holds : (b : Bool) → T b → b ≡ true
       holds true t = refl
       holds false t = absurd t
+
+      fails : (b : Bool) → T (not b) → b ≡ false
+      fails true t = absurd t
+      fails false t = refl
 
   each-tested : (days : List Date) → T (all year days) → Each OnDate days
   unfolding all

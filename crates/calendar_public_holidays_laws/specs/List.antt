@@ -1,6 +1,6 @@
 -- What the holiday list of a year has, in every year of the span and for every choice. Proved in proofs/List.antt.
 use mathlib.Core.Path.{_≡_}
-use mathlib.Core.Bool.{Bool, _&&_, _||_}
+use mathlib.Core.Bool.{Bool, false, _&&_, _||_}
 use mathlib.Core.List.{map}
 use Prim.Native.Nat.{ℕ, _/_, _%_, _^_, _≤_}
 use lib.Dec.{eqb}
@@ -36,6 +36,9 @@ pub record ListFacts (year choice : ℕ) : Type 0 where
   pub rising : Rising (yearHolidays year choice)
   pub atLeast : 10 ≤ length (yearHolidays year choice)
   pub atMost : length (yearHolidays year choice) ≤ 17
+  -- 24 and 31 December are in no list: document 02, (b), leaves them Saturdays there, unless they are Sundays
+  pub noChristmasEve : listed (numberOf (on year 12 24)) (yearHolidays year choice) ≡ false
+  pub noNewYearsEve : listed (numberOf (on year 12 31)) (yearHolidays year choice) ≡ false
   -- "Every list given passes question 9."
   pub passes : holidaysQuestion (yearHolidays year choice) ≡ Pass
 

@@ -33,6 +33,12 @@ marked-figures =
       leapDay-t = refl;
       christmasEve = record { isWeekday = refl; isSeason = refl; isDayType = refl };
       yearEnd = record { isWeekday = refl; isSeason = refl; isDayType = refl };
+      listedChristmasEve = record { isWeekday = refl; isSeason = refl; isDayType = refl };
+      listedNewYearsEve = record { isWeekday = refl; isSeason = refl; isDayType = refl };
+      sundayEve = record { isWeekday = refl; isSeason = refl; isDayType = refl };
+      listedSundayEve = record { isWeekday = refl; isSeason = refl; isDayType = refl };
+      listedSaturday = record { isWeekday = refl; isSeason = refl; isDayType = refl };
+      newYearsEve = record { isWeekday = refl; isSeason = refl; isDayType = refl };
       clockForward = refl;
       clockBack = refl;
       year-2000 = refl;

@@ -1,6 +1,6 @@
--- Document 01, "Marked days and figures", in its order. Proved in proofs/MarkedFigures.antt.
+-- Document 01, "Marked days and figures", in its order, and document 02's beside them. Proved in proofs/MarkedFigures.antt.
 use mathlib.Core.Path.{_≡_}
-use mathlib.Core.List.{[], _∷_}
+use mathlib.Core.List.{List, [], _∷_}
 use Prim.Native.Nat.{ℕ}
 use lib.IntN.{pos}
 use lib.ListN.{length}
@@ -24,11 +24,19 @@ pub record Factor (t x f : ℕ) : Type 0 where
 abbrev pub InSeason : ℕ → ℕ → Season → Type 0
 InSeason month day s = (year : ℕ) → season (record { year = year; month = month; day = day }) ≡ s
 
--- a date's weekday, season and day type without a list
-pub record DayIs (date weekday : ℕ) (s : Season) (d : DayType) : Type 0 where
+-- a date's weekday, season and day type with a list
+pub record DayIsWith (holidays : List ℕ) (date weekday : ℕ) (s : Season) (d : DayType) : Type 0 where
   pub isWeekday : weekdayOf (dateOf date) ≡ weekday
   pub isSeason : season (dateOf date) ≡ s
-  pub isDayType : dayType (dateOf date) [] ≡ d
+  pub isDayType : dayType (dateOf date) holidays ≡ d
+
+-- and without one
+abbrev pub DayIs : ℕ → ℕ → Season → DayType → Type 0
+DayIs = DayIsWith []
+
+-- the date itself listed
+abbrev pub ListedDayIs : ℕ → ℕ → Season → DayType → Type 0
+ListedDayIs date = DayIsWith (date ∷ []) date
 
 -- how many quarter hours the series of some days from a date on has, whatever the group, its 864 values and the list
 abbrev pub SeriesHas : ℕ → ℕ → ℕ → Type 0
@@ -58,6 +66,14 @@ pub record MarkedFigures : Type 0 where
   -- "24 December 1999 (Friday): W2. 31 December 2000 (Sunday): W3."
   pub christmasEve : DayIs 19991224 5 Season.Winter DayType.Saturday
   pub yearEnd : DayIs 20001231 7 Season.Winter DayType.Sunday
+  -- document 02 (b), "a listed date counts as Sunday even on 24 or 31 December": both of 1999 (Fridays), 24 December 2000 (a Sunday,
+  -- listed or not), 25 December 1999 (a Saturday); and 31 December 1999, unlisted
+  pub listedChristmasEve : ListedDayIs 19991224 5 Season.Winter DayType.Sunday
+  pub listedNewYearsEve : ListedDayIs 19991231 5 Season.Winter DayType.Sunday
+  pub sundayEve : DayIs 20001224 7 Season.Winter DayType.Sunday
+  pub listedSundayEve : ListedDayIs 20001224 7 Season.Winter DayType.Sunday
+  pub listedSaturday : ListedDayIs 19991225 6 Season.Winter DayType.Sunday
+  pub newYearsEve : DayIs 19991231 5 Season.Winter DayType.Saturday
   -- "26 March 2000: 92 values. 29 October 2000: 100. Year 2000: 35,136."
   pub clockForward : valueCount (dateOf 20000326) ≡ 92
   pub clockBack : valueCount (dateOf 20001029) ≡ 100

@@ -21,11 +21,15 @@ const HOLIDAYS: [u32; 11] = [
     20001226,
 ];
 
+// A list that has 24 and 31 December, as a works agreement may make them full holidays: they count as Sunday then.
+const AGREED: [u32; 5] = [19991224, 19991225, 19991226, 19991231, 20001224];
+
 // A list that is refused: its second entry is not later than the first.
 const REPEATED: [u32; 3] = [20000101, 20000101, 20000421];
 
-// The dates asked about. The last two are refused: 2000-02-30 is no date, and 2100-01-01 lies outside the span.
-const DATES: [u32; 18] = [
+// The dates asked about with the federal holidays, which have no 24 or 31 December: those two count as Saturday unless they are
+// Sundays. The last two dates are refused: 2000-02-30 is no date, and 2100-01-01 lies outside the span.
+const DATES: [u32; 19] = [
     20000101,
     20000229,
     20000320,
@@ -42,21 +46,35 @@ const DATES: [u32; 18] = [
     20001224,
     20001231,
     19991224,
+    19991231,
     20000230,
     21000101,
 ];
 
 pub fn show() {
     let mut i: usize = 0;
-    while i < 18 {
-        write_listed(DATES[i]);
+    while i < 19 {
+        write_federal(DATES[i]);
         i += 1;
     }
+    show_agreed();
     write_repeated();
 }
 
-fn write_listed(date: u32) {
+fn show_agreed() {
+    write_agreed(19991223);
+    write_agreed(19991224);
+    write_agreed(19991225);
+    write_agreed(19991231);
+    write_agreed(20001224);
+}
+
+fn write_federal(date: u32) {
     write_answer(date, &HOLIDAYS);
+}
+
+fn write_agreed(date: u32) {
+    write_answer(date, &AGREED);
 }
 
 fn write_repeated() {

@@ -1,20 +1,34 @@
-// A second calendar against `call_day`, over every day from 1996-01-01 to 2099-12-31, with no holidays. Each day whose
-// figures differ is written as a line, then how many agree. The file stdout has the line to expect.
+// A second calendar against `call_day`, over every day from 1996-01-01 to 2099-12-31: with no list of holidays, with a list that has
+// the day alone, and with one that has 24, 25, 26 and 31 December of its year. Each day whose figures differ is written as a line,
+// then how many agree. The file stdout has the lines to expect.
 mod second;
 
 use libc::STDOUT_FILENO;
 use second::Figures;
+use second::Listed;
 ghost use Prim.Native.Nat.{_≤_};
 
-// The weekday is counted on from 1 January 1996, a Monday.
 fn main() {
+    compare_span(Listed::Nothing);
+    io::write_all(STDOUT_FILENO, b" days agree with no list\n");
+    compare_span(Listed::Day);
+    io::write_all(STDOUT_FILENO, b" days agree with the day listed\n");
+    compare_span(Listed::YearEnd);
+    io::write_all(
+        STDOUT_FILENO,
+        b" days agree with 24, 25, 26 and 31 December listed\n",
+    );
+}
+
+// The weekday is counted on from 1 January 1996, a Monday.
+fn compare_span(listed: Listed) {
     let mut year: u32 = 1996;
     let mut t: u32 = 1;
     let mut weekday: u32 = 1;
     let mut days: u32 = 0;
     let mut agree: u32 = 0;
     while year < 2100 {
-        agree += compare(year, t, weekday);
+        agree += compare(year, t, weekday, listed);
         days += 1;
         weekday = weekday % 7 + 1;
         t += 1;
@@ -26,17 +40,16 @@ fn main() {
     write_number(agree);
     io::write_all(STDOUT_FILENO, b" of ");
     write_number(days);
-    io::write_all(STDOUT_FILENO, b" days agree\n");
 }
 
 // 1 where the day's figures agree. Else 0, after a line with the date, the enquiry's figures and the second calendar's.
-fn compare(year: u32, t: u32, weekday: u32) -> u32
+fn compare(year: u32, t: u32, weekday: u32, listed: Listed) -> u32
     requires { ⌜ (year ≤ 2099) × ((1 ≤ t) × (t ≤ 366)) ⌝ }
     ensures { λ r. ⌜ r ≤ 1 ⌝ }
 {
     let date = second::date_of(year, t);
-    let answered = enquired(date);
-    let expected = second::figures_of(year, t, weekday);
+    let answered = enquired(date, year, listed);
+    let expected = second::figures_of(year, t, weekday, listed);
     if same(answered, expected) {
         return 1;
     }
@@ -48,10 +61,25 @@ fn compare(year: u32, t: u32, weekday: u32) -> u32
     0
 }
 
-// What `call_day` answers.
-fn enquired(date: u32) -> Figures {
-    let holidays: [u32; 0] = [];
-    let r = call_day::report(call_day::enquire(date, &holidays));
+// What `call_day` answers with the list.
+fn enquired(date: u32, year: u32, listed: Listed) -> Figures
+    requires { ⌜ year ≤ 2099 ⌝ }
+{
+    match listed {
+        Listed::Nothing => with_list(date, &[]),
+        Listed::Day => with_list(date, &[date]),
+        Listed::YearEnd => with_year_end(date, year * 10_000),
+    }
+}
+
+fn with_year_end(date: u32, year: u32) -> Figures
+    requires { ⌜ year ≤ 20_990_000 ⌝ }
+{
+    with_list(date, &[year + 1224, year + 1225, year + 1226, year + 1231])
+}
+
+fn with_list(date: u32, holidays: &[u32]) -> Figures {
+    let r = call_day::report(call_day::enquire(date, holidays));
     Figures {
         number: r.number,
         place: r.place,

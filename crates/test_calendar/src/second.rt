@@ -13,8 +13,17 @@ pub struct Figures {
     pub values: u32,
 }
 
+// The list of holidays that a day is asked about with.
+pub enum Listed {
+    Nothing,
+    // the day alone
+    Day,
+    // 24, 25, 26 and 31 December of the day's year
+    YearEnd,
+}
+
 // What the report must be.
-pub fn figures_of(year: u32, t: u32, weekday: u32) -> Figures {
+pub fn figures_of(year: u32, t: u32, weekday: u32, listed: Listed) -> Figures {
     let leap = leap_days(year);
     Figures {
         number: 0,
@@ -22,7 +31,7 @@ pub fn figures_of(year: u32, t: u32, weekday: u32) -> Figures {
         weekday,
         t,
         season: season(t, leap),
-        day_type: day_type(t, leap, weekday),
+        day_type: day_type(t, leap, weekday, is_listed(t, leap, listed)),
         values: values(t, leap, weekday),
     }
 }
@@ -72,10 +81,24 @@ fn season(t: u32, leap: u32) -> u32
     1
 }
 
-// 1 weekday, 2 Saturday, 3 Sunday, with no list of holidays. 24 December is the year's eighth day from the end.
-fn day_type(t: u32, leap: u32, weekday: u32) -> u32
+// Whether the list has the day. 24 December is the year's eighth day from the end, day 358 of a common year.
+fn is_listed(t: u32, leap: u32, listed: Listed) -> bool
     requires { ⌜ leap ≤ 1 ⌝ }
 {
+    match listed {
+        Listed::Nothing => false,
+        Listed::Day => true,
+        Listed::YearEnd => is_within(t, 358 + leap, 360 + leap) || t == 365 + leap,
+    }
+}
+
+// 1 weekday, 2 Saturday, 3 Sunday: what is listed is a Sunday, and 24 and 31 December lift a weekday to a Saturday.
+fn day_type(t: u32, leap: u32, weekday: u32, is_listed: bool) -> u32
+    requires { ⌜ leap ≤ 1 ⌝ }
+{
+    if is_listed {
+        return 3;
+    }
     if weekday == 7 {
         return 3;
     }

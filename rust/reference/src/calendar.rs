@@ -42,7 +42,7 @@ pub enum Season {
 pub enum DayType {
     /// Monday to Friday, where nothing else is said.
     Weekday = 0,
-    /// Saturdays, 24 and 31 December.
+    /// Saturdays, 24 and 31 December, where nothing else is said.
     Saturday = 1,
     /// Sundays and listed holidays.
     Sunday = 2,
@@ -135,13 +135,10 @@ impl Day {
 
     /// The day type, with a list of holidays that is in order.
     pub fn day_type(self, holidays: &[u32]) -> DayType {
-        if self.weekday == 7 {
+        let is_eve = self.month == 12 && (self.day == 24 || self.day == 31);
+        if self.weekday == 7 || holidays.binary_search(&self.date()).is_ok() {
             DayType::Sunday
-        } else if self.month == 12 && (self.day == 24 || self.day == 31) {
-            DayType::Saturday
-        } else if holidays.binary_search(&self.date()).is_ok() {
-            DayType::Sunday
-        } else if self.weekday == 6 {
+        } else if self.weekday == 6 || is_eve {
             DayType::Saturday
         } else {
             DayType::Weekday
@@ -253,9 +250,9 @@ mod tests {
         assert!(!is_date(u32::MAX));
     }
 
-    /// The order in which the day type is settled.
+    /// The order in which the day type is settled, and the marked days of document 02, (b).
     #[test]
-    fn holidays_come_after_sundays_and_the_years_end() {
+    fn a_listed_date_is_a_sunday_also_at_the_years_end() {
         let listed = |date| day(date, &[date]).unwrap().day_type;
         assert_eq!(
             (of(20_000_103).day_type, listed(20_000_103)),
@@ -266,9 +263,16 @@ mod tests {
             (Saturday, Sunday)
         );
         assert_eq!(listed(20_000_102), Sunday);
-        assert_eq!(listed(19_991_224), Saturday);
-        assert_eq!(listed(19_991_231), Saturday);
-        assert_eq!(listed(20_001_224), Sunday);
+        for eve in [19_991_224, 19_991_231] {
+            assert_eq!((of(eve).day_type, listed(eve)), (Saturday, Sunday));
+        }
+        let other = day(19_991_231, &[19_991_224]).unwrap().day_type;
+        assert_eq!(other, Saturday);
+        assert_eq!(
+            (of(20_001_224).day_type, listed(20_001_224)),
+            (Sunday, Sunday)
+        );
+        assert_eq!(listed(19_991_225), Sunday);
     }
 
     #[test]

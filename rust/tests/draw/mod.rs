@@ -277,6 +277,12 @@ pub fn date_at(index: usize) -> u32 {
     span()[index].date()
 }
 
+/// Whether a date is a 24 or 31 December that is no Sunday, where the list decides between Saturday and Sunday.
+pub fn is_eve(date: u32) -> bool {
+    let day = calendar::day_of(date);
+    [1224, 1231].contains(&(date % 10_000)) && day.is_some_and(|day| day.weekday != 7)
+}
+
 /// A number that is mostly no date of the span.
 fn bad_date(draw: &mut Draw) -> u32 {
     let good = date_at(day_index(draw));

@@ -89,33 +89,40 @@ fn without_a_list_no_day_counts_as_a_holiday() {
     assert_eq!(rows("2000-06-12", "none"), whit_monday);
 }
 
-/// 24 and 31 December are Saturdays, listed or not, where they are no Sundays.
+/// 24 and 31 December are Sundays where they are listed, as every listed date; unlisted they are Saturdays where they are no Sundays.
 #[test]
-fn the_years_end_comes_before_the_list() {
+fn the_list_comes_before_the_years_end() {
     let folder = folder("calendar_year_end");
-    let dates = "1999-12-24 x\n1999-12-31\n2000-12-24\n2000-12-31 y\n";
+    let dates = "1999-12-24 works agreement\n1999-12-25\n1999-12-31\n2000-12-24\n2000-12-31 y\n";
     let list = file(&folder, "list.txt", dates);
-    for (list, why) in [(&*list, ", though listed"), ("none", "")] {
-        for (day, row) in [
-            (
-                "1999-12-24",
-                format!("358;1999-12-24;Friday;winter;Saturday;24 December{why};96\n"),
-            ),
-            (
-                "1999-12-31",
-                format!("365;1999-12-31;Friday;winter;Saturday;31 December{why};96\n"),
-            ),
-            (
-                "2000-12-24",
-                "359;2000-12-24;Sunday;winter;Sunday;Sunday;96\n".to_owned(),
-            ),
-            (
-                "2000-12-31",
-                "366;2000-12-31;Sunday;winter;Sunday;Sunday;96\n".to_owned(),
-            ),
-        ] {
-            assert_eq!(rows(day, list), row);
-        }
+    for (period, listed, unlisted) in [
+        (
+            "1999-12-24..1999-12-25",
+            "358;1999-12-24;Friday;winter;Sunday;listed: works agreement;96
+359;1999-12-25;Saturday;winter;Sunday;listed;96
+",
+            "358;1999-12-24;Friday;winter;Saturday;24 December, not listed;96
+359;1999-12-25;Saturday;winter;Saturday;Saturday;96
+",
+        ),
+        (
+            "1999-12-31",
+            "365;1999-12-31;Friday;winter;Sunday;listed;96\n",
+            "365;1999-12-31;Friday;winter;Saturday;31 December, not listed;96\n",
+        ),
+        (
+            "2000-12-24",
+            "359;2000-12-24;Sunday;winter;Sunday;Sunday;96\n",
+            "359;2000-12-24;Sunday;winter;Sunday;Sunday;96\n",
+        ),
+        (
+            "2000-12-31",
+            "366;2000-12-31;Sunday;winter;Sunday;Sunday;96\n",
+            "366;2000-12-31;Sunday;winter;Sunday;Sunday;96\n",
+        ),
+    ] {
+        assert_eq!(rows(period, &list), listed);
+        assert_eq!(rows(period, "none"), unlisted);
     }
 }
 

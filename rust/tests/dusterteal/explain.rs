@@ -246,7 +246,7 @@ H0, 2000-07-20, the quarter hour until 12:00 +02:00, 3500 kWh a year: 17 Wh
 
 date      2000-07-20            Thursday                                                             000 step 4
 season    summer                15 May to 14 September                                               000 step 2
-day type  weekday               Monday to Friday                                                     000 step 4; 01 Calendar
+day type  weekday               Monday to Friday                                                     000 step 4; 01 Calendar; 02 (b)
 table     summer weekday        of H0 in standard input                                              000 step 2
 until     12:00 +02:00          number 48 of the day's 96; position 47, counted from 0               000 step 4; 01 Calendar
 P         25,0 W                the table's value, for 1000 kWh a year                               000 step 2; 01 The profile file
@@ -266,7 +266,7 @@ G0, 2000-10-29, the quarter hour until 02:15 +01:00, 1000 kWh a year: 25 Wh
 
 date      2000-10-29             Sunday                                                            000 step 4
 season    transition             21 March to 14 May, 15 September to 31 October                    000 step 2
-day type  Sunday                 Sunday                                                            000 step 4; 01 Calendar
+day type  Sunday                 Sunday                                                            000 step 4; 01 Calendar; 02 (b)
 table     transition Sunday      of G0 in standard input                                           000 step 2
 until     02:15 +01:00           number 13 of the day's 100; position 8, counted from 0            000 step 4; 01 Calendar
 P         100.1 W                the table's value, for 1000 kWh a year                            000 step 2; 01 The profile file
@@ -307,7 +307,11 @@ fn the_text_is_this_to_the_letter() {
 fn the_day_type_is_explained_by_the_rule_that_settles_it() {
     let folder = folder("explain_why");
     let source = Source::usual(&folder);
-    let list = file(&folder, "named.txt", "2000-06-12 Whit Monday\n");
+    let list = file(
+        &folder,
+        "named.txt",
+        "1999-12-24 works agreement\n2000-06-12 Whit Monday\n",
+    );
     let why = |date: &str| {
         let words = [
             "explain",
@@ -334,6 +338,8 @@ fn the_day_type_is_explained_by_the_rule_that_settles_it() {
     assert_eq!(why("2000-06-13"), "Monday to Friday");
     assert_eq!(why("2000-06-17"), "Saturday");
     assert_eq!(why("2000-12-24"), "Sunday");
+    assert_eq!(why("1999-12-24"), "listed: works agreement");
+    assert_eq!(why("1999-12-31"), "31 December, not listed");
 }
 
 #[test]

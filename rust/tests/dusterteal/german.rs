@@ -141,7 +141,7 @@ fn a_day_has_its_name() {
         why("2000-06-22", "german:fronleichnam"),
         "listed: Corpus Christi"
     );
-    assert_eq!(why("1999-12-24", "german:all"), "24 December");
+    assert_eq!(why("1999-12-24", "german:all"), "24 December, not listed");
     let source = Source::usual(&folder("german_name"));
     let words = [
         "explain",

@@ -45,7 +45,7 @@ const WORDS: [&str; 6] = [
 const THEY_ARE: &str = "the regional days are epiphany (Heilige Drei Könige), corpus-christi (Fronleichnam), assumption (Mariä Himmelfahrt), reformation-day (Reformationstag), all-saints (Allerheiligen), repentance-day (Buß- und Bettag), split by commas; or say all or none";
 
 /// What every list says of the days that it does not have, and one that has not all days of its years.
-const DECEMBER: &str = "# 24 and 31 December are not listed: they count as Saturday by themselves, unless they are Sundays.\n";
+const DECEMBER: &str = "# 24 and 31 December are not listed and count as Saturday, unless they are Sundays; a line for one makes it a Sunday.\n";
 const PART: &str =
     "# A run that begins earlier (--since) or ends later needs the days before or behind too.\n";
 

@@ -64,3 +64,12 @@ fn damage(draw: &mut Draw, bytes: &mut Vec<u8>, listed: usize) {
         _ => {}
     }
 }
+
+/// Whether one of the lines is that of a 24 or 31 December which is no Sunday, with this day type: W2 unlisted, W3 listed.
+pub fn has_a_years_end(text: &str, day_type: &str) -> bool {
+    let of = |line: &str| {
+        let (date, rest) = line.split_once(' ').expect("a line has fields");
+        rest.starts_with(day_type) && date.replace('-', "").parse().is_ok_and(draw::is_eve)
+    };
+    text.lines().any(of)
+}

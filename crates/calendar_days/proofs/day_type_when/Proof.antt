@@ -21,14 +21,14 @@ returns-2 : tie.Need-returns-2
 unfolding dayTypeWhen
 returns-2 c =
     let first = c .before in
-    rw (← (first .before .before .before .pre .1), ne-eqb _ _ (first .if1 .left), eq-eqb _ _ (c .if2 .taken))
+    rw (← (first .before .before .before .pre .1), ne-eqb _ _ (first .if1 .left), c .if2 .taken)
 
 returns-3 : tie.Need-returns-3
 unfolding dayTypeWhen
 returns-3 c =
     let second = c .before in
     let first = second .before in
-    rw (← (first .before .before .before .pre .1), ne-eqb _ _ (first .if1 .left), ne-eqb _ _ (second .if2 .left), eq-eqb _ _ (c .if3 .taken))
+    rw (← (first .before .before .before .pre .1), ne-eqb _ _ (first .if1 .left), second .if2 .left, eq-eqb _ _ (c .if3 .taken))
 
 returns-4 : tie.Need-returns-4
 unfolding dayTypeWhen
@@ -36,35 +36,37 @@ returns-4 c =
     let third = c .before in
     let second = third .before in
     let first = second .before in
-    rw (← (first .before .before .before .pre .1), ne-eqb _ _ (first .if1 .left), ne-eqb _ _ (second .if2 .left), ne-eqb _ _ (third .if3 .left), c .if4 .taken)
+    rw (← (first .before .before .before .pre .1), ne-eqb _ _ (first .if1 .left), second .if2 .left, ne-eqb _ _ (third .if3 .left), eq-eqb _ _ (c .if4 .taken))
 
 returns-5 : tie.Need-returns-5
 unfolding dayTypeWhen
 returns-5 c =
-    let third = c .before .before in
+    let fourth = c .before in
+    let third = fourth .before in
     let second = third .before in
     let first = second .before in
     rw (
       ← (first .before .before .before .pre .1),
       ne-eqb _ _ (first .if1 .left),
-      ne-eqb _ _ (second .if2 .left),
+      second .if2 .left,
       ne-eqb _ _ (third .if3 .left),
-      c .before .if4 .left,
+      ne-eqb _ _ (fourth .if4 .left),
       eq-eqb _ _ (c .if5 .taken),
     )
 
 returns-6 : tie.Need-returns-6
 unfolding dayTypeWhen
 returns-6 c =
-    let third = c .before .before in
+    let fourth = c .before in
+    let third = fourth .before in
     let second = third .before in
     let first = second .before in
     rw (
       ← (first .before .before .before .pre .1),
       ne-eqb _ _ (first .if1 .left),
-      ne-eqb _ _ (second .if2 .left),
+      second .if2 .left,
       ne-eqb _ _ (third .if3 .left),
-      c .before .if4 .left,
+      ne-eqb _ _ (fourth .if4 .left),
       ne-eqb _ _ (c .if5 .left),
     )
 

@@ -282,7 +282,7 @@ impl Explained<'_> {
                 "day type",
                 names::day_type(day.day_type),
                 &why,
-                "000 step 4; 01 Calendar",
+                "000 step 4; 01 Calendar; 02 (b)",
             ),
             line("table", names::profile_day(day), &source, "000 step 2"),
             line("until", self.label(), &place, "000 step 4; 01 Calendar"),

@@ -61,7 +61,8 @@ const LISTS: &str = "  --holidays WHICH      german     the days of all of Germa
                         FILE       a file with one date a line, with or without a name behind it; one that is called german
                                    or none is ./german, ./none
                         none       no day
-                        24 and 31 December need no list: they count as Saturday, unless they are Sundays.
+                        A listed date counts as Sunday. 24 and 31 December count as Saturday, unless they are Sundays or a FILE has
+                        them; german has neither.
 ";
 
 const BEGINNING: &str = "  --since DATE          begin the run on DATE and write PERIOD alone, so that parts join to the whole
@@ -186,8 +187,8 @@ fn holidays() -> String {
 
 Writes the German holidays of a period, one date a line with its name: the eleven days that all of Germany keeps, and the regional
 days that are asked for. PERIOD is as in `series`, of any length in 1996 to 2099. `--holidays` reads the list; to have the same days
-in a run without a file, say --holidays german or --holidays german:NAME,.. there. 24 and 31 December are not listed: they
-count as Saturday by themselves, unless they are Sundays.
+in a run without a file, say --holidays german or --holidays german:NAME,.. there. 24 and 31 December are not listed and
+count as Saturday, unless they are Sundays; where an agreement makes one a full holiday, add its line, and it counts as Sunday.
 
   --regional NAME,..    regional days, beside those of --state; or all; or none, as without it. A name is in English or German, with
                         hyphens for blanks:{names}

@@ -60,7 +60,7 @@ pub fn make(given: &[OsString]) -> Result<Made, Failure> {
 /// What a list says of days that it does not have.
 fn about_days(period: Period) -> String {
     let mut text = String::from(
-        "# 24 and 31 December are not listed: they count as Saturday by themselves, unless they are Sundays.\n",
+        "# 24 and 31 December are not listed and count as Saturday, unless they are Sundays; a line for one makes it a Sunday.\n",
     );
     if !period.is_whole_years() {
         text += "# A run that begins earlier (--since) or ends later needs the days before or behind too.\n";

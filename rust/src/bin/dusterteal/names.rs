@@ -57,8 +57,8 @@ pub fn table_index(day: &Day) -> usize {
     3 * day.season as usize + day.day_type as usize
 }
 
-/// Why a day has its day type: the first rule of document 01's order that settles it. A difference from the proved day enquiry
-/// is a fault.
+/// Why a day has its day type: the first rule, in the order of documents 01 and 02, that settles it. A difference from the proved
+/// day enquiry is a fault.
 pub fn why(date: Date, day: &Day, holidays: &Holidays) -> Result<String, Failure> {
     let (settled, why) = rule(date, day, holidays.name_of(date));
     if settled == day.day_type {
@@ -71,20 +71,16 @@ pub fn why(date: Date, day: &Day, holidays: &Holidays) -> Result<String, Failure
 }
 
 fn rule(date: Date, day: &Day, listed: Option<&str>) -> (DayType, String) {
-    let year_end = match (date.month(), date.day()) {
-        (12, 24) => Some("24 December"),
-        (12, 31) => Some("31 December"),
-        _ => None,
+    let (day_type, why) = match (day.weekday, listed, (date.month(), date.day())) {
+        (7, _, _) => (DayType::Sunday, "Sunday"),
+        (_, Some(""), _) => (DayType::Sunday, "listed"),
+        (_, Some(name), _) => return (DayType::Sunday, format!("listed: {name}")),
+        (_, None, (12, 24)) => (DayType::Saturday, "24 December, not listed"),
+        (_, None, (12, 31)) => (DayType::Saturday, "31 December, not listed"),
+        (6, None, _) => (DayType::Saturday, "Saturday"),
+        _ => (DayType::Weekday, "Monday to Friday"),
     };
-    match (day.weekday, year_end, listed) {
-        (7, _, _) => (DayType::Sunday, "Sunday".to_owned()),
-        (_, Some(year_end), None) => (DayType::Saturday, year_end.to_owned()),
-        (_, Some(year_end), Some(_)) => (DayType::Saturday, format!("{year_end}, though listed")),
-        (_, _, Some("")) => (DayType::Sunday, "listed".to_owned()),
-        (_, _, Some(name)) => (DayType::Sunday, format!("listed: {name}")),
-        (6, _, _) => (DayType::Saturday, "Saturday".to_owned()),
-        _ => (DayType::Weekday, "Monday to Friday".to_owned()),
-    }
+    (day_type, why.to_owned())
 }
 
 #[cfg(test)]
@@ -102,14 +98,21 @@ mod tests {
         };
         expect(20_000_102, Some("x"), DayType::Sunday, "Sunday");
         expect(20_001_224, None, DayType::Sunday, "Sunday");
-        expect(19_991_224, None, DayType::Saturday, "24 December");
+        expect(20_001_224, Some("x"), DayType::Sunday, "Sunday");
+        expect(19_991_224, Some("x"), DayType::Sunday, "listed: x");
+        expect(19_991_231, Some(""), DayType::Sunday, "listed");
         expect(
             19_991_224,
-            Some("x"),
+            None,
             DayType::Saturday,
-            "24 December, though listed",
+            "24 December, not listed",
         );
-        expect(19_991_231, None, DayType::Saturday, "31 December");
+        expect(
+            19_991_231,
+            None,
+            DayType::Saturday,
+            "31 December, not listed",
+        );
         expect(
             20_000_101,
             Some("New Year"),

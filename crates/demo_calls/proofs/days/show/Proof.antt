@@ -5,22 +5,22 @@ use Rattle.demo_calls.proofs.days.show.Statement.{statement}
 use Rattle.demo_calls.proofs.days.show.Tie as tie
 
 abbrev Inv-loop : tie.InvT-loop
-Inv-loop i₀ i = i ≤ 18
+Inv-loop i₀ i = i ≤ 19
 
 abbrev μ-loop : tie.MeasureT-loop
-μ-loop i₀ i = 18 - i
+μ-loop i₀ i = 19 - i
 
 loop-holds : tie.Need-loop-holds Inv-loop μ-loop
 loop-holds c = search needs
 
-mul-write-listed : tie.Need-mul-write-listed Inv-loop μ-loop
-mul-write-listed c = search needs
+mul-write-federal : tie.Need-mul-write-federal Inv-loop μ-loop
+mul-write-federal c = search needs
 
-array-read-write-listed : tie.Need-array-read-write-listed Inv-loop μ-loop
-array-read-write-listed c = search needs
+array-read-write-federal : tie.Need-array-read-write-federal Inv-loop μ-loop
+array-read-write-federal c = search needs
 
-write-listed-requires : tie.Need-write-listed-requires Inv-loop μ-loop
-write-listed-requires c κs = search needs
+write-federal-requires : tie.Need-write-federal-requires Inv-loop μ-loop
+write-federal-requires c κs = search needs
 
 add-i : tie.Need-add-i Inv-loop μ-loop
 add-i c = search needs
@@ -30,6 +30,9 @@ loop-less c = search needs
 
 loop-again : tie.Need-loop-again Inv-loop μ-loop
 loop-again c = search needs
+
+show-agreed-requires : tie.Need-show-agreed-requires Inv-loop μ-loop
+show-agreed-requires c κs = search needs
 
 write-repeated-requires : tie.Need-write-repeated-requires Inv-loop μ-loop
 write-repeated-requires c κs = search needs
@@ -44,11 +47,12 @@ show-spec =
     Inv-loop
     μ-loop
     loop-holds
-    mul-write-listed
-    array-read-write-listed
-    write-listed-requires
+    mul-write-federal
+    array-read-write-federal
+    write-federal-requires
     add-i
     loop-less
     loop-again
+    show-agreed-requires
     write-repeated-requires
     returns)
