@@ -28,10 +28,10 @@ fn file() -> Vec<u8> {
     profile_file::of(&GROUPS, &values)
 }
 
-/// 1 January and 3 October of each year.
+/// 1 January, 3 October and 24 December of each year.
 fn holidays() -> Vec<u32> {
     (1996..=2099)
-        .flat_map(|year| [10_000 * year + 101, 10_000 * year + 1_003])
+        .flat_map(|year| [101, 1_003, 1_224].map(|date| 10_000 * year + date))
         .collect()
 }
 
