@@ -25,6 +25,10 @@ season d =
     cond (leb 1101 (monthDay d) || leb (monthDay d) 320) Winter
     (cond (leb 515 (monthDay d) && leb (monthDay d) 914) Summer Transition)
 
+-- "24 or 31 December"
+unfoldable pub isEve : Date → Bool
+isEve d = eqb (d .month) 12 && (eqb (d .day) 24 || eqb (d .day) 31)
+
 -- Document 01 as document 02 (b) changes it: "A Sunday is a Sunday." "a listed date counts as Sunday even on 24 or 31 December;
 -- unlisted, those two still count as Saturday unless they are Sundays." "Then Saturdays and weekdays.": of a date that is a listed
 -- holiday or not
@@ -32,7 +36,7 @@ unfoldable pub dayTypeWhen : Date → Bool → DayType
 dayTypeWhen d holiday =
     cond (eqb (weekdayOf d) 7) Sunday
     (cond holiday Sunday
-    (cond (eqb (monthDay d) 1224 || eqb (monthDay d) 1231) Saturday
+    (cond (isEve d) Saturday
     (cond (eqb (weekdayOf d) 6) Saturday Weekday)))
 
 abbrev pub dayType : Date → List ℕ → DayType

@@ -3,7 +3,7 @@ use calendar_dates::Date;
 ghost use mathlib.Core.Path.{_≡_};
 ghost use mathlib.Core.Bool.{true};
 ghost use Rattle.calendar_dates.specs.Dates.{isDate, weekdayOf};
-ghost use Rattle.calendar_days.specs.Days.{season, dayTypeWhen, dayType, lastSunday, clock, valueCountUnder};
+ghost use Rattle.calendar_days.specs.Days.{season, isEve, dayTypeWhen, dayType, lastSunday, clock, valueCountUnder};
 
 pub enum Season {
     Winter,
@@ -49,22 +49,31 @@ pub fn season_of(d: Date) -> Season
     Season::Transition
 }
 
+// 24 and 31 December.
+fn is_eve(d: Date) -> bool
+    ensures { λ r. ⌜ r ≡ isEve d ⌝ }
+{
+    if d.month != 12 {
+        return false;
+    }
+    if d.day == 24 {
+        return true;
+    }
+    d.day == 31
+}
+
 // The day type, of a date whose weekday is known, and of which it is known whether it is a listed holiday.
 pub fn day_type_when(d: Date, weekday: u32, holiday: bool) -> DayType
-    requires { ⌜ (isDate d ≡ true) × (weekday ≡ weekdayOf d) ⌝ }
+    requires { ⌜ weekday ≡ weekdayOf d ⌝ }
     ensures { λ r. ⌜ r ≡ dayTypeWhen d holiday ⌝ }
 {
-    let month_day = d.month * 100 + d.day;
     if weekday == 7 {
         return DayType::Sunday;
     }
     if holiday {
         return DayType::Sunday;
     }
-    if month_day == 1224 {
-        return DayType::Saturday;
-    }
-    if month_day == 1231 {
+    if is_eve(d) {
         return DayType::Saturday;
     }
     if weekday == 6 {

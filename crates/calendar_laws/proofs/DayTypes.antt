@@ -1,7 +1,7 @@
 -- How the day type of every date is settled, and what request (b) changed: the tests of the two orders, case by case.
 -- Assumes nothing.
 use mathlib.Core.Path.{_≡_, refl, sym, _∙_, ap}
-use mathlib.Core.Bool.{Bool, true, false, cond, _||_, true≢false}
+use mathlib.Core.Bool.{Bool, true, false, cond, _&&_, _||_, true≢false}
 use mathlib.Core.List.{List}
 use mathlib.Core.Logic.{inl, inr}
 use Prim.Native.Nat.{ℕ, _≤_}
@@ -9,43 +9,31 @@ use native.Mathlib.Omega.{arith}
 use lib.Dec.{eqb}
 use borrow.Author.Tests.{eq-eqb, ne-eqb, eqb-true, eqb-false}
 use Rattle.calendar_dates.specs.declared.Date.{Date}
-use Rattle.calendar_dates.specs.Dates.{numberOf, isDate, weekdayOf}
-use Rattle.calendar_dates.proofs.Dates.{parts}
+use Rattle.calendar_dates.specs.Dates.{numberOf, weekdayOf}
 use Rattle.calendar_holidays.specs.Holidays.{listed}
 use Rattle.calendar_days.specs.declared.DayType.{DayType}
 use Rattle.calendar_days.specs.declared.DayType.the-variants.{Weekday, Saturday, Sunday}
-use Rattle.calendar_days.specs.Days.{monthDay, dayTypeWhen, dayType}
+use Rattle.calendar_days.specs.Days.{isEve, dayTypeWhen, dayType}
 use Rattle.calendar_laws.specs.DayTypes.{earlierDayType, Eve, ListedEve, DayTypeFacts, DayTypesSettled}
 
--- what both orders ask of the month and day
-abbrev eve : Date → Bool
-eve d = eqb (monthDay d) 1224 || eqb (monthDay d) 1231
+-- what both orders ask of month and day
+eve-asked : (d : Date) → Eve d → isEve d ≡ true
+unfolding isEve
+eve-asked d (december, inl day) = rw (december, day)
+eve-asked d (december, inr day) = rw (december, day)
 
-second : (a b : Bool) → b ≡ true → (a || b) ≡ true
-second true b h = refl
-second false b h = h
-
-eve-asked : (d : Date) → Eve d → eve d ≡ true
-eve-asked d (december, inl day) =
-    let same : monthDay d ≡ 1224 = omega (arith, december, day) in
-    rw (eq-eqb (monthDay d) 1224 same)
-eve-asked d (december, inr day) =
-    second (eqb (monthDay d) 1224) (eqb (monthDay d) 1231) (eq-eqb (monthDay d) 1231 (omega (arith, december, day)))
-
-eve-found : (d : Date) → isDate d ≡ true → eve d ≡ true → Eve d
-eve-found d h = go (eqb (monthDay d) 1224) refl (eqb (monthDay d) 1231) refl
+eve-found : (d : Date) → isEve d ≡ true → Eve d
+unfolding isEve
+eve-found d = go (eqb (d .month) 12) refl (eqb (d .day) 24) refl (eqb (d .day) 31) refl
   where
-    go : (a : Bool) → eqb (monthDay d) 1224 ≡ a → (b : Bool) → eqb (monthDay d) 1231 ≡ b → (a || b) ≡ true → Eve d
-    go true p b q t =
-        let same = eqb-true (monthDay d) 1224 p in
-        (omega (arith, same, parts d h), inl (omega (arith, same, parts d h)))
-    go false p true q t =
-        let same = eqb-true (monthDay d) 1231 q in
-        (omega (arith, same, parts d h), inr (omega (arith, same, parts d h)))
-    go false p false q t = absurd (true≢false (sym t))
+    go : (m : Bool) → eqb (d .month) 12 ≡ m → (a : Bool) → eqb (d .day) 24 ≡ a → (b : Bool) → eqb (d .day) 31 ≡ b → (m && (a || b)) ≡ true → Eve d
+    go false p a q b r t = absurd (true≢false (sym t))
+    go true p true q b r t = (eqb-true (d .month) 12 p, inl (eqb-true (d .day) 24 q))
+    go true p false q true r t = (eqb-true (d .month) 12 p, inr (eqb-true (d .day) 31 r))
+    go true p false q false r t = absurd (true≢false (sym t))
 
-no-eve : (d : Date) → isDate d ≡ true → (Eve d → ⊥) → eve d ≡ false
-no-eve d h n = go (eve d) (eve-found d h)
+no-eve : (d : Date) → (Eve d → ⊥) → isEve d ≡ false
+no-eve d n = go (isEve d) (eve-found d)
   where
     go : (b : Bool) → (b ≡ true → Eve d) → b ≡ false
     go true found = absurd (n (found refl))
@@ -85,16 +73,16 @@ module _ (d : Date) (holidays : List ℕ) where
 
   on-saturday : isListed ≡ false → weekdayOf d ≡ 6 → dayType d holidays ≡ Saturday
   unfolding dayTypeWhen
-  on-saturday l h = rw (l, h) (either (eve d))
+  on-saturday l h = rw (l, h) (either (isEve d))
     where
       either : (b : Bool) → cond b Saturday Saturday ≡ Saturday
       either true = refl
       either false = refl
 
-  on-weekday : isDate d ≡ true → isListed ≡ false → (Eve d → ⊥) → weekdayOf d ≤ 5 → dayType d holidays ≡ Weekday
+  on-weekday : isListed ≡ false → (Eve d → ⊥) → weekdayOf d ≤ 5 → dayType d holidays ≡ Weekday
   unfolding dayTypeWhen
-  on-weekday real l n h =
-      rw (l, ne-eqb (weekdayOf d) 7 (λ e. omega (arith, h, e)), no-eve d real n, ne-eqb (weekdayOf d) 6 (λ e. omega (arith, h, e)))
+  on-weekday l n h =
+      rw (l, ne-eqb (weekdayOf d) 7 (λ e. omega (arith, h, e)), no-eve d n, ne-eqb (weekdayOf d) 6 (λ e. omega (arith, h, e)))
 
   unlisted-same : isListed ≡ false → dayType d holidays ≡ earlierDayType d holidays
   unfolding dayTypeWhen earlierDayType
@@ -104,27 +92,27 @@ module _ (d : Date) (holidays : List ℕ) where
   unfolding earlierDayType
   eve-earlier k = rw (ne-eqb (weekdayOf d) 7 (k .noSunday), eve-asked d (k .isEve))
 
-  else-same : isDate d ≡ true → (ListedEve d holidays → ⊥) → dayType d holidays ≡ earlierDayType d holidays
+  else-same : (ListedEve d holidays → ⊥) → dayType d holidays ≡ earlierDayType d holidays
   unfolding dayTypeWhen earlierDayType
-  else-same real n = go isListed refl (eqb (weekdayOf d) 7) refl (eve d) refl
+  else-same n = go isListed refl (eqb (weekdayOf d) 7) refl (isEve d) refl
     where
-      go : (l : Bool) → isListed ≡ l → (s : Bool) → eqb (weekdayOf d) 7 ≡ s → (e : Bool) → eve d ≡ e →
+      go : (l : Bool) → isListed ≡ l → (s : Bool) → eqb (weekdayOf d) 7 ≡ s → (e : Bool) → isEve d ≡ e →
           dayType d holidays ≡ earlierDayType d holidays
       go false l s p e q = unlisted-same l
       go true l true p e q = rw (l, p)
-      go true l false p true q = absurd (n (record { isListed = l; isEve = eve-found d real q; noSunday = eqb-false (weekdayOf d) 7 p }))
+      go true l false p true q = absurd (n (record { isListed = l; isEve = eve-found d q; noSunday = eqb-false (weekdayOf d) 7 p }))
       go true l false p false q = rw (l, p, q)
 
 pub day-types-settled : DayTypesSettled
 unfolding DayTypesSettled
-day-types-settled d holidays real =
+day-types-settled d holidays =
     record {
       onSunday = on-sunday d holidays;
       onListed = on-listed d holidays;
       onEve = on-eve d holidays;
       onSaturday = on-saturday d holidays;
-      onWeekday = on-weekday d holidays real;
+      onWeekday = on-weekday d holidays;
       unlistedSame = unlisted-same d holidays;
       eveDiffers = λ k same. no-saturday (sym (on-listed d holidays (k .isListed)) ∙ same ∙ eve-earlier d holidays k);
-      elseSame = else-same d holidays real;
+      elseSame = else-same d holidays;
     }

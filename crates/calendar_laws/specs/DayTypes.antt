@@ -1,23 +1,23 @@
 -- Document 02, (b), sentence by sentence, and what it changed of document 01's order.
 use mathlib.Core.Path.{_≡_}
-use mathlib.Core.Bool.{true, false, cond, _||_}
+use mathlib.Core.Bool.{true, false, cond}
 use mathlib.Core.List.{List}
 use mathlib.Core.Logic.{_⊎_}
 use Prim.Native.Nat.{ℕ, _≤_}
 use lib.Dec.{eqb}
 use Rattle.calendar_dates.specs.declared.Date.{Date}
-use Rattle.calendar_dates.specs.Dates.{numberOf, isDate, weekdayOf}
+use Rattle.calendar_dates.specs.Dates.{numberOf, weekdayOf}
 use Rattle.calendar_holidays.specs.Holidays.{listed}
 use Rattle.calendar_days.specs.declared.DayType.{DayType}
 use Rattle.calendar_days.specs.declared.DayType.the-variants.{Weekday, Saturday, Sunday}
-use Rattle.calendar_days.specs.Days.{monthDay, dayType}
+use Rattle.calendar_days.specs.Days.{isEve, dayType}
 
 -- the order that the request changed: "A Sunday is a Sunday. 24 and 31 December count as Saturday. A listed holiday counts as Sunday.
 -- Then Saturdays and weekdays."
 unfoldable pub earlierDayType : Date → List ℕ → DayType
 earlierDayType d holidays =
     cond (eqb (weekdayOf d) 7) Sunday
-    (cond (eqb (monthDay d) 1224 || eqb (monthDay d) 1231) Saturday
+    (cond (isEve d) Saturday
     (cond (listed (numberOf d) holidays) Sunday
     (cond (eqb (weekdayOf d) 6) Saturday Weekday)))
 
@@ -50,4 +50,4 @@ pub record DayTypeFacts (d : Date) (holidays : List ℕ) : Type 0 where
 
 -- for every date and every list. Proved in proofs/DayTypes.antt.
 unfoldable pub DayTypesSettled : Type 0
-DayTypesSettled = (d : Date) (holidays : List ℕ) → isDate d ≡ true → DayTypeFacts d holidays
+DayTypesSettled = (d : Date) (holidays : List ℕ) → DayTypeFacts d holidays

@@ -22,9 +22,7 @@ is-listed-at-requires c κs =
     (place .inOrder, rw (c .number-of .ensures) (place .reached))
 
 day-type-when-requires : tie.Need-day-type-when-requires
-day-type-when-requires c κs =
-    let real = c .before .before .before .before .pre .0 in
-    (real .real, own-weekday real)
+day-type-when-requires c κs = own-weekday (c .before .before .before .before .pre .0)
 
 -- a kind is its two parts
 same-kind : {s t : Season} {k l : DayType} → s ≡ t → k ≡ l → _≡_ {A = DayKind} (record { season = s; «day_type» = k }) (record { season = t; «day_type» = l })
