@@ -183,7 +183,8 @@ struct slp_response_report slp_respond(const uint8_t *input, size_t input_length
  * (2), SLP_REFORMATION (3), SLP_ALL_SAINTS (4), SLP_REPENTANCE (5), joined by |; 0 for none. The dates rise, and one that is met twice
  * (1 May 2008, Ascension Day too) is listed once, so slp_day and slp_expand take the list. 24 and 31 December are no
  * public holidays and not in it, so that they count as Saturday where they are no Sundays; where an agreement makes one of them a full
- * holiday, put it into the list, in its place. Questions 14, 15 and 16 (place: the entries needed; SLP_MOST_HOLIDAYS is always enough).
+ * holiday, insert it where the dates still rise (lend an entry more for it). Questions 14, 15 and 16 (place: the entries needed;
+ * SLP_MOST_HOLIDAYS is always enough).
  */
 struct slp_holidays_report slp_holidays(uint32_t year, uint8_t choice, uint32_t *list, size_t list_length);
 

@@ -233,7 +233,7 @@ pub fn compare(file: &[u8], first: Group, second: Group) -> Result<bool, Refusal
 /// assert_eq!((day.weekday, day.t, day.value_count), (7, 86, 92));
 /// assert_eq!((day.season, day.day_type), (slp::Season::Transition, slp::DayType::Sunday));
 ///
-/// // Christmas Eve 1999 is a Friday. It counts as Saturday, and where it is listed as Sunday.
+/// // Christmas Eve 1999 is a Friday. It counts as Saturday and, where it is listed, as Sunday.
 /// assert_eq!(slp::day(19991224, &[19991225, 19991226])?.day_type, slp::DayType::Saturday);
 /// assert_eq!(slp::day(19991224, &[19991224, 19991225, 19991226])?.day_type, slp::DayType::Sunday);
 /// # Ok::<(), slp::Refusal>(())
@@ -328,7 +328,7 @@ pub fn respond(input: &[u8], page: &mut [u8]) -> Result<usize, Refusal> {
 ///
 /// The dates rise, and one that is met twice is listed once, as 1 May 2008, which is Ascension Day too. So the list is one that
 /// [`day`] and [`expand`] take. 24 and 31 December are no public holidays and not in it, so that they count as Saturday where they
-/// are no Sundays; where an agreement makes one of them a full holiday, put it into the list, in its place.
+/// are no Sundays; where an agreement makes one of them a full holiday, insert it where the dates still rise.
 ///
 /// ```
 /// let mut list = [0; slp::MOST_HOLIDAYS];

@@ -234,14 +234,35 @@ fn a_missing_kit_is_said() {
 
 // The README.
 
-/// The README's commands for the tool that can be pasted as they stand: all but those for a table of the reader's own, `G0.csv`.
+/// The README's commands for the tool that can be pasted as they stand: all but those for a table of the reader's own, `G0.csv`; and
+/// the one that changes a list.
 fn pasted() -> Vec<String> {
     let readme = stored_text("README.md");
-    let lines = readme
+    let commands = readme
         .lines()
-        .filter_map(|line| line.strip_prefix("    dusterteal "));
-    let whole = lines.filter(|line| !line.contains(" G0.csv"));
+        .filter_map(|line| line.strip_prefix("    "))
+        .filter(|line| line.starts_with("dusterteal ") || line.starts_with("sed "));
+    let whole = commands.filter(|line| !line.contains(" G0.csv"));
     whole.map(str::to_owned).collect()
+}
+
+/// Runs a command of the README in the repository's folder, as it is pasted there.
+fn paste(command: &str) -> Vec<u8> {
+    let tool = Path::new(env!("CARGO_BIN_EXE_dusterteal"));
+    let path = format!(
+        "{}:{}",
+        tool.parent().expect("a folder").display(),
+        std::env::var("PATH").unwrap()
+    );
+    let output = Command::new("sh")
+        .args(["-c", command])
+        .current_dir(repository::path(""))
+        .env("PATH", path)
+        .output()
+        .expect("it runs");
+    let said = String::from_utf8_lossy(&output.stderr);
+    assert!(output.status.success(), "{command}: {said}");
+    output.stdout
 }
 
 #[test]
@@ -249,21 +270,27 @@ fn the_commands_of_the_readme_run() {
     let commands = pasted();
     let subcommands: Vec<&str> = commands
         .iter()
+        .map(|line| line.trim_start_matches("dusterteal "))
         .filter_map(|line| line.split(' ').next())
         .collect();
     assert_eq!(
         subcommands,
         [
-            "series", "sums", "days", "explain", "day", "holidays", "check", "compare", "days",
-            "days"
+            "series", "sums", "days", "explain", "day", "holidays", "check", "compare", "holidays",
+            "sed", "day", "days", "days"
         ]
     );
     for command in &commands {
-        let words: Vec<&str> = command.split(' ').collect();
-        let outcome = tool::run(&words);
-        assert_eq!(outcome.status, 0, "{command}: {}", outcome.said);
-        let is_file = words.contains(&"-o");
-        assert_eq!(outcome.written.is_empty(), is_file, "{command}");
+        let is_file = command.contains(" -o ") || command.starts_with("sed");
+        let written = String::from_utf8(paste(command)).expect("text");
+        assert_eq!(written.is_empty(), is_file, "{command}");
+        if command.contains("day 2026-12-23") {
+            let eves = [
+                "Sunday;listed: works agreement",
+                "Saturday;31 December, not listed",
+            ];
+            assert!(eves.iter().all(|eve| written.contains(eve)), "{written}");
+        }
     }
 }
 
@@ -280,7 +307,7 @@ fn the_lines_of_the_readme_are_those_of_its_series() {
         .remove(0)
         .replace("2000-Q2", "2000-10-29")
         .replace("target/series.csv", "-");
-    let series = written(&command.split(' ').collect::<Vec<_>>());
+    let series = String::from_utf8(paste(&command)).expect("text");
     for line in shown {
         assert!(series.contains(&format!("\n2000-10-29;{line}\n")), "{line}");
     }
@@ -368,7 +395,7 @@ fn december_1999(list: &str) -> String {
     listing
 }
 
-/// 24 and 31 December 1999 are Fridays: a works agreement's 24 December makes that day a Sunday, and the total less. No other line
+/// 24 and 31 December 1999 are Fridays: a works agreement's 24 December makes that day a Sunday and lowers the total. No other line
 /// changes: for 40,000 kWh a year the carry is always 0.
 #[test]
 fn a_works_agreements_christmas_eve_changes_that_day() {

@@ -102,7 +102,7 @@ fn random_inputs_agree() {
 // Inputs that chance draws seldom.
 
 /// From 20 December on all days are listed, then all but 24 and 31 December: those two count as Sunday, and unlisted as Saturday where
-/// they are no Sundays (both of them, or neither).
+/// they are no Sundays. The two always have the same weekday.
 #[test]
 fn listed_year_ends_agree() {
     let file = constant_file(10, 1001);

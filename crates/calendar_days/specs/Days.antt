@@ -1,4 +1,4 @@
--- Document 01, "Calendar": seasons, day types and clock changes.
+-- Document 01, "Calendar", and document 02, (b): seasons, day types and clock changes.
 use mathlib.Core.Bool.{Bool, cond, _&&_, _||_}
 use mathlib.Core.List.{List, _++_}
 use Prim.Native.Nat.{ℕ, _+_, _*_}

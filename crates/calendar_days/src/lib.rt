@@ -1,4 +1,4 @@
-// What sort of day a date is: its season, its day type and its clock change (document 01, "Calendar").
+// What sort of day a date is: its season, its day type and its clock change (document 01, "Calendar", and document 02, (b)).
 use calendar_dates::Date;
 ghost use mathlib.Core.Path.{_≡_};
 ghost use mathlib.Core.Bool.{true};

@@ -9,14 +9,15 @@ use native.Mathlib.Omega.{arith}
 use lib.Dec.{eqb}
 use borrow.Author.Tests.{eq-eqb, ne-eqb, eqb-true, eqb-false}
 use Rattle.calendar_dates.specs.declared.Date.{Date}
-use Rattle.calendar_dates.specs.Dates.{numberOf, weekdayOf}
+use Rattle.calendar_dates.specs.Dates.{numberOf, isDate, weekdayOf}
+use Rattle.calendar_dates.proofs.Dates.{parts}
 use Rattle.calendar_holidays.specs.Holidays.{listed}
 use Rattle.calendar_days.specs.declared.DayType.{DayType}
 use Rattle.calendar_days.specs.declared.DayType.the-variants.{Weekday, Saturday, Sunday}
-use Rattle.calendar_days.specs.Days.{isEve, dayTypeWhen, dayType}
+use Rattle.calendar_days.specs.Days.{monthDay, isEve, dayTypeWhen, dayType}
 use Rattle.calendar_laws.specs.DayTypes.{earlierDayType, Eve, ListedEve, DayTypeFacts, DayTypesSettled}
 
--- what both orders ask of month and day
+-- what the order asks of month and day
 eve-asked : (d : Date) → Eve d → isEve d ≡ true
 unfolding isEve
 eve-asked d (december, inl day) = rw (december, day)
@@ -38,6 +39,42 @@ no-eve d n = go (isEve d) (eve-found d)
     go : (b : Bool) → (b ≡ true → Eve d) → b ≡ false
     go true found = absurd (n (found refl))
     go false found = refl
+
+-- and what the order before asked, of mmdd
+abbrev asked-before : Date → Bool
+asked-before d = eqb (monthDay d) 1224 || eqb (monthDay d) 1231
+
+second : (a b : Bool) → b ≡ true → (a || b) ≡ true
+second true b h = refl
+second false b h = h
+
+before-asked : (d : Date) → Eve d → asked-before d ≡ true
+before-asked d (december, inl day) =
+    let same : monthDay d ≡ 1224 = omega (arith, december, day) in
+    rw (eq-eqb (monthDay d) 1224 same)
+before-asked d (december, inr day) =
+    second (eqb (monthDay d) 1224) (eqb (monthDay d) 1231) (eq-eqb (monthDay d) 1231 (omega (arith, december, day)))
+
+before-found : (d : Date) → isDate d ≡ true → asked-before d ≡ true → Eve d
+before-found d real = go (eqb (monthDay d) 1224) refl (eqb (monthDay d) 1231) refl
+  where
+    go : (a : Bool) → eqb (monthDay d) 1224 ≡ a → (b : Bool) → eqb (monthDay d) 1231 ≡ b → (a || b) ≡ true → Eve d
+    go true p b q t =
+        let same = eqb-true (monthDay d) 1224 p in
+        (omega (arith, same, parts d real), inl (omega (arith, same, parts d real)))
+    go false p true q t =
+        let same = eqb-true (monthDay d) 1231 q in
+        (omega (arith, same, parts d real), inr (omega (arith, same, parts d real)))
+    go false p false q t = absurd (true≢false (sym t))
+
+-- are the same of a real date
+both-ways : (a b : Bool) → (a ≡ true → b ≡ true) → (b ≡ true → a ≡ true) → a ≡ b
+both-ways true b f g = sym (f refl)
+both-ways false true f g = g refl
+both-ways false false f g = refl
+
+same-asked : (d : Date) → isDate d ≡ true → asked-before d ≡ isEve d
+same-asked d real = both-ways (asked-before d) (isEve d) (λ h. eve-asked d (before-found d real h)) (λ h. before-asked d (eve-found d h))
 
 -- a Sunday is no Saturday
 place : DayType → ℕ
@@ -84,35 +121,35 @@ module _ (d : Date) (holidays : List ℕ) where
   on-weekday l n h =
       rw (l, ne-eqb (weekdayOf d) 7 (λ e. omega (arith, h, e)), no-eve d n, ne-eqb (weekdayOf d) 6 (λ e. omega (arith, h, e)))
 
-  unlisted-same : isListed ≡ false → dayType d holidays ≡ earlierDayType d holidays
+  unlisted-same : isDate d ≡ true → isListed ≡ false → dayType d holidays ≡ earlierDayType d holidays
   unfolding dayTypeWhen earlierDayType
-  unlisted-same l = rw l
+  unlisted-same real l = rw (l, same-asked d real)
 
   eve-earlier : ListedEve d holidays → earlierDayType d holidays ≡ Saturday
   unfolding earlierDayType
-  eve-earlier k = rw (ne-eqb (weekdayOf d) 7 (k .noSunday), eve-asked d (k .isEve))
+  eve-earlier k = rw (ne-eqb (weekdayOf d) 7 (k .noSunday), before-asked d (k .eve))
 
-  else-same : (ListedEve d holidays → ⊥) → dayType d holidays ≡ earlierDayType d holidays
+  else-same : isDate d ≡ true → (ListedEve d holidays → ⊥) → dayType d holidays ≡ earlierDayType d holidays
   unfolding dayTypeWhen earlierDayType
-  else-same n = go isListed refl (eqb (weekdayOf d) 7) refl (isEve d) refl
+  else-same real n = go isListed refl (eqb (weekdayOf d) 7) refl (isEve d) refl
     where
       go : (l : Bool) → isListed ≡ l → (s : Bool) → eqb (weekdayOf d) 7 ≡ s → (e : Bool) → isEve d ≡ e →
           dayType d holidays ≡ earlierDayType d holidays
-      go false l s p e q = unlisted-same l
+      go false l s p e q = unlisted-same real l
       go true l true p e q = rw (l, p)
-      go true l false p true q = absurd (n (record { isListed = l; isEve = eve-found d q; noSunday = eqb-false (weekdayOf d) 7 p }))
-      go true l false p false q = rw (l, p, q)
+      go true l false p true q = absurd (n (record { isListed = l; eve = eve-found d q; noSunday = eqb-false (weekdayOf d) 7 p }))
+      go true l false p false q = rw (l, p, same-asked d real, q)
 
 pub day-types-settled : DayTypesSettled
 unfolding DayTypesSettled
-day-types-settled d holidays =
+day-types-settled d holidays real =
     record {
       onSunday = on-sunday d holidays;
       onListed = on-listed d holidays;
       onEve = on-eve d holidays;
       onSaturday = on-saturday d holidays;
       onWeekday = on-weekday d holidays;
-      unlistedSame = unlisted-same d holidays;
+      unlistedSame = unlisted-same d holidays real;
       eveDiffers = λ k same. no-saturday (sym (on-listed d holidays (k .isListed)) ∙ same ∙ eve-earlier d holidays k);
-      elseSame = else-same d holidays;
+      elseSame = else-same d holidays real;
     }

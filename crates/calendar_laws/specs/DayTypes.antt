@@ -1,23 +1,23 @@
--- Document 02, (b), sentence by sentence, and what it changed of document 01's order.
+-- Document 02, (b): what its second sentence says of every date, and what it changed of document 01's order.
 use mathlib.Core.Path.{_≡_}
-use mathlib.Core.Bool.{true, false, cond}
+use mathlib.Core.Bool.{true, false, cond, _||_}
 use mathlib.Core.List.{List}
 use mathlib.Core.Logic.{_⊎_}
 use Prim.Native.Nat.{ℕ, _≤_}
 use lib.Dec.{eqb}
 use Rattle.calendar_dates.specs.declared.Date.{Date}
-use Rattle.calendar_dates.specs.Dates.{numberOf, weekdayOf}
+use Rattle.calendar_dates.specs.Dates.{numberOf, isDate, weekdayOf}
 use Rattle.calendar_holidays.specs.Holidays.{listed}
 use Rattle.calendar_days.specs.declared.DayType.{DayType}
 use Rattle.calendar_days.specs.declared.DayType.the-variants.{Weekday, Saturday, Sunday}
-use Rattle.calendar_days.specs.Days.{isEve, dayType}
+use Rattle.calendar_days.specs.Days.{monthDay, dayType}
 
--- the order that the request changed: "A Sunday is a Sunday. 24 and 31 December count as Saturday. A listed holiday counts as Sunday.
--- Then Saturdays and weekdays."
+-- the order that the request changed, as it was defined: "A Sunday is a Sunday. 24 and 31 December count as Saturday. A listed
+-- holiday counts as Sunday. Then Saturdays and weekdays."
 unfoldable pub earlierDayType : Date → List ℕ → DayType
 earlierDayType d holidays =
     cond (eqb (weekdayOf d) 7) Sunday
-    (cond (isEve d) Saturday
+    (cond (eqb (monthDay d) 1224 || eqb (monthDay d) 1231) Saturday
     (cond (listed (numberOf d) holidays) Sunday
     (cond (eqb (weekdayOf d) 6) Saturday Weekday)))
 
@@ -28,7 +28,7 @@ Eve d = (d .month ≡ 12) × ((d .day ≡ 24) ⊎ (d .day ≡ 31))
 -- a listed 24 or 31 December that is no Sunday
 pub record ListedEve (d : Date) (holidays : List ℕ) : Type 0 where
   pub isListed : listed (numberOf d) holidays ≡ true
-  pub isEve : Eve d
+  pub eve : Eve d
   pub noSunday : weekdayOf d ≡ 7 → ⊥
 
 -- the day type of a date, with a list
@@ -48,6 +48,6 @@ pub record DayTypeFacts (d : Date) (holidays : List ℕ) : Type 0 where
   pub eveDiffers : ListedEve d holidays → dayType d holidays ≡ earlierDayType d holidays → ⊥
   pub elseSame : (ListedEve d holidays → ⊥) → dayType d holidays ≡ earlierDayType d holidays
 
--- for every date and every list. Proved in proofs/DayTypes.antt.
+-- for every date of the span and every list. Proved in proofs/DayTypes.antt.
 unfoldable pub DayTypesSettled : Type 0
-DayTypesSettled = (d : Date) (holidays : List ℕ) → DayTypeFacts d holidays
+DayTypesSettled = (d : Date) (holidays : List ℕ) → isDate d ≡ true → DayTypeFacts d holidays

@@ -26,7 +26,7 @@ whitMonday year = marchDay year (easterDay year + 50)
 abbrev pub corpusChristi : ℕ → Date
 corpusChristi year = marchDay year (easterDay year + 60)
 
--- "Diese sind z.B. im Jahr 2000:"
+-- "Diese sind z.B. im Jahr 2000:" 24 and 31 December are none of them; document 02, (b), says what they count as.
 abbrev pub federalDays : ℕ → List Date
 federalDays year =
     -- "01.01. – Neujahr"

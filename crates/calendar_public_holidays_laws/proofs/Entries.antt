@@ -17,12 +17,16 @@ use Rattle.calendar_movable_days.proofs.Years.{in-year}
 use Rattle.calendar_public_holidays.specs.Days.{federalDays, regionalDays}
 use Rattle.calendar_public_holidays.specs.YearHolidays.{chosen, chosenDays, inserted, inOrder, yearHolidays}
 
--- a number that is a date of the span, one of the year, and neither 24 nor 31 December
+-- neither 24 nor 31 December
+pub record Other (n : ℕ) : Type 0 where
+  pub noChristmasEve : n % 10_000 ≡ 1224 → ⊥
+  pub noNewYearsEve : n % 10_000 ≡ 1231 → ⊥
+
+-- a number that is a date of the span, one of the year, and such another day
 pub record DateOf (year n : ℕ) : Type 0 where
   pub isReal : isDate (dateOf n) ≡ true
   pub ofYear : n / 10_000 ≡ year
-  pub noChristmasEve : n % 10_000 ≡ 1224 → ⊥
-  pub noNewYearsEve : n % 10_000 ≡ 1231 → ⊥
+  pub other : Other n
 
 -- Every day of a year is one: computed year by year.
 test : ℕ → ℕ → Bool
@@ -49,8 +53,11 @@ module _ (year : ℕ) where
       record {
         isReal = holds real (date .0);
         ofYear = eqb→eq (n / 10_000) year (date .1);
-        noChristmasEve = eqb-false (n % 10_000) 1224 (fails christmas (eves .0));
-        noNewYearsEve = eqb-false (n % 10_000) 1231 (fails new-year (eves .1));
+        other =
+            record {
+              noChristmasEve = eqb-false (n % 10_000) 1224 (fails christmas (eves .0));
+              noNewYearsEve = eqb-false (n % 10_000) 1231 (fails new-year (eves .1));
+            };
       }
     where
       holds : (b : Bool) → T b → b ≡ true
@@ -114,3 +121,10 @@ each-of-year year choice s =
     each-in-order year (chosenDays year choice)
     (each-number year days
     (each-append (OnDate year) (federalDays year) (chosen choice (regionalDays year)) (federal-dates year s) (each-chosen year choice (regionalDays year) (regional-dates year s))))
+
+pub each-other : (year choice : ℕ) → InSpan year → Each Other (yearHolidays year choice)
+each-other year choice s = go (yearHolidays year choice) (each-of-year year choice s)
+  where
+    go : (dates : List ℕ) → Each (DateOf year) dates → Each Other dates
+    go [] e = tt
+    go (n ∷ dates) e = (e .0 .other, go dates (e .1))

@@ -4,7 +4,7 @@ use Rattle.calendar_public_holidays.specs.YearHolidays.{chosenDays, yearHoliday
 use Rattle.calendar_public_holidays.proofs.InOrder.{order-rising}
 use Rattle.calendar_public_holidays_laws.specs.List.{EveryList}
 use Rattle.calendar_public_holidays_laws.proofs.Members.{has-chosen}
-use Rattle.calendar_public_holidays_laws.proofs.Eves.{no-christmas-eve, no-new-years-eve}
+use Rattle.calendar_public_holidays_laws.proofs.Eves.{no-eves}
 use Rattle.calendar_public_holidays_laws.proofs.Length.{at-most-17, at-least-10}
 use Rattle.calendar_public_holidays_laws.proofs.Question.{list-passes}
 
@@ -17,7 +17,6 @@ every-list year choice a b =
       rising = order-rising (chosenDays year choice);
       atLeast = at-least-10 year choice s;
       atMost = at-most-17 year choice;
-      noChristmasEve = no-christmas-eve year choice s;
-      noNewYearsEve = no-new-years-eve year choice s;
+      noEves = no-eves year choice s;
       passes = list-passes year choice s;
     }

@@ -1,4 +1,4 @@
-// The day enquiry: questions 7 and 9, and what document 01 says of the day.
+// The day enquiry: questions 7 and 9, and what documents 01 and 02 say of the day.
 use calendar_dates::Date;
 use calendar_days::DayType;
 use calendar_days::Season;
@@ -35,7 +35,7 @@ pub struct DayReport {
     pub value_count: u32,
 }
 
-// What document 01 says of a day.
+// What documents 01 and 02 say of a day.
 fn describe(d: Date, holidays: &[u32]) -> Day
     requires { ⌜ isDate d ≡ true ⌝ }
     ensures { λ r. ⌜ r ≡ describe d (now (holidays .entry)) ⌝ }

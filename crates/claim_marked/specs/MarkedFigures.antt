@@ -66,13 +66,14 @@ pub record MarkedFigures : Type 0 where
   -- "24 December 1999 (Friday): W2. 31 December 2000 (Sunday): W3."
   pub christmasEve : DayIs 19991224 5 Season.Winter DayType.Saturday
   pub yearEnd : DayIs 20001231 7 Season.Winter DayType.Sunday
-  -- document 02 (b), "a listed date counts as Sunday even on 24 or 31 December": both of 1999 (Fridays), 24 December 2000 (a Sunday,
-  -- listed or not), 25 December 1999 (a Saturday); and 31 December 1999, unlisted
+  -- document 02 (b), "a listed date counts as Sunday even on 24 or 31 December": these two days of 1999 are Fridays, 25 December 1999
+  -- is a Saturday, 24 December 2000 a Sunday
   pub listedChristmasEve : ListedDayIs 19991224 5 Season.Winter DayType.Sunday
   pub listedNewYearsEve : ListedDayIs 19991231 5 Season.Winter DayType.Sunday
-  pub sundayEve : DayIs 20001224 7 Season.Winter DayType.Sunday
-  pub listedSundayEve : ListedDayIs 20001224 7 Season.Winter DayType.Sunday
   pub listedSaturday : ListedDayIs 19991225 6 Season.Winter DayType.Sunday
+  pub listedSundayEve : ListedDayIs 20001224 7 Season.Winter DayType.Sunday
+  -- "unlisted, those two still count as Saturday unless they are Sundays"
+  pub sundayEve : DayIs 20001224 7 Season.Winter DayType.Sunday
   pub newYearsEve : DayIs 19991231 5 Season.Winter DayType.Saturday
   -- "26 March 2000: 92 values. 29 October 2000: 100. Year 2000: 35,136."
   pub clockForward : valueCount (dateOf 20000326) ≡ 92

@@ -148,7 +148,7 @@ pub record JoinedCalls (common : Common) (start : ℕ) (calls : List Call) : Typ
   pub defined : Each AsDefined calls
   pub nothing : accepted calls ≡ [] → NothingJoined start calls
   pub whole : (c : Call) → ByContract c → IsWhole common start (accepted calls) (c .given) → isAccepted (c .report) ≡ true → SameAsWhole start calls c
-  -- the joined figures, counts, totals and last carry are those that document 01 defines, also past 1,461 days
+  -- the joined figures, counts, totals and last carry are those that documents 01 and 02 define, also past 1,461 days
   pub figuresAre : joinedFigures calls ≡ figures (common .yearly) (powers (joinedQuarters calls)) start
   pub countsAre : addedCounts calls ≡ length (joinedFigures calls)
   pub totalsAre : addedTotals calls ≡ sum (joinedFigures calls)

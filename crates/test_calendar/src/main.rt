@@ -20,7 +20,8 @@ fn main() {
     );
 }
 
-// The weekday is counted on from 1 January 1996, a Monday.
+// Writes how many days agree, of how many, and leaves the rest of the line to its caller. The weekday is counted on from 1 January
+// 1996, a Monday.
 fn compare_span(listed: Listed) {
     let mut year: u32 = 1996;
     let mut t: u32 = 1;
@@ -72,10 +73,14 @@ fn enquired(date: u32, year: u32, listed: Listed) -> Figures
     }
 }
 
-fn with_year_end(date: u32, year: u32) -> Figures
-    requires { ⌜ year ≤ 20_990_000 ⌝ }
+// `start` is the year as yyyy0000, so that month and day are added to it.
+fn with_year_end(date: u32, start: u32) -> Figures
+    requires { ⌜ start ≤ 20_990_000 ⌝ }
 {
-    with_list(date, &[year + 1224, year + 1225, year + 1226, year + 1231])
+    with_list(
+        date,
+        &[start + 1224, start + 1225, start + 1226, start + 1231],
+    )
 }
 
 fn with_list(date: u32, holidays: &[u32]) -> Figures {

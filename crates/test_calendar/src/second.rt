@@ -92,7 +92,7 @@ fn is_listed(t: u32, leap: u32, listed: Listed) -> bool
     }
 }
 
-// 1 weekday, 2 Saturday, 3 Sunday: what is listed is a Sunday, and 24 and 31 December lift a weekday to a Saturday.
+// 1 weekday, 2 Saturday, 3 Sunday: what is listed counts as Sunday, and on 24 and 31 December a weekday counts as Saturday.
 fn day_type(t: u32, leap: u32, weekday: u32, is_listed: bool) -> u32
     requires { ⌜ leap ≤ 1 ⌝ }
 {

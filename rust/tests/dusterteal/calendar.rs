@@ -2,7 +2,7 @@
 use reference::calendar::Day;
 
 use crate::draw;
-use crate::expected::{dashed, expect_text, DAY_TYPES, SEASONS, WEEKDAYS};
+use crate::expected::{dashed, expect_text, federal_list, DAY_TYPES, SEASONS, WEEKDAYS};
 use crate::tool::{file, folder, run, stopped, warned, written};
 
 pub const HEADER: &str = "t;date;weekday;season;day type;why;values\n";
@@ -190,7 +190,7 @@ fn the_whole_span_in_one_call() {
 #[test]
 fn a_year_without_a_listed_date_is_warned_of() {
     let folder = folder("calendar_years");
-    let list = file(&folder, "list.txt", "2000-01-01\n2002-01-01\n");
+    let list = file(&folder, "list.txt", federal_list(&[2000, 2002]));
     let said = run(&["day", "2000..2004", "--holidays", &list]).said;
     assert_eq!(
         said,

@@ -216,6 +216,14 @@ pub fn day_of(date: u32) -> Day {
     calendar::day_of(date).expect("a date of the span")
 }
 
+/// A list of the days that all of Germany keeps in some years, a date a line.
+pub fn federal_list(years: &[u32]) -> String {
+    let dates = years
+        .iter()
+        .flat_map(|year| reference::holidays::federal(*year));
+    dates.map(|date| dashed(date) + "\n").collect()
+}
+
 /// A date as yyyy-mm-dd.
 pub fn dashed(date: u32) -> String {
     format!(

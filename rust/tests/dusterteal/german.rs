@@ -402,7 +402,7 @@ fn a_run_that_begins_outside_the_span_is_refused() {
 }
 
 /// What names no regional day, what is wrong, and what may be meant.
-const UNKNOWN: [(&str, &str, &str); 4] = [
+const UNKNOWN: [(&str, &str, &str); 6] = [
     ("german:easter", "\"easter\" is no regional day", ""),
     ("German:", "a name is missing", ""),
     ("german:epiphany,x", "\"x\" is no regional day", ""),
@@ -411,7 +411,43 @@ const UNKNOWN: [(&str, &str, &str); 4] = [
         "\"Bavaria\" is no regional day",
         "; the list of a state is made by `dusterteal holidays YEAR --state Bayern -o FILE` and read by --holidays FILE",
     ),
+    (
+        "german:epiphany,Christmas-Eve",
+        "\"Christmas-Eve\" is no regional day",
+        OTHER_DAYS,
+    ),
+    (
+        "german:2026-12-24",
+        "\"2026-12-24\" is no regional day",
+        OTHER_DAYS,
+    ),
 ];
+
+/// What is said to someone who wants a day that is no public holiday.
+pub const OTHER_DAYS: &str = "; a day that is no public holiday, as 24 December, is a line in a file: `dusterteal holidays YEAR -o FILE` writes a list, put the day in and say --holidays FILE";
+
+#[test]
+fn a_date_is_no_file() {
+    for which in [
+        "german,2026-12-24",
+        "german+24.12.2026",
+        "2026-12-24",
+        "Heiligabend",
+    ] {
+        let what = format!("cannot read {which}: ");
+        let hint = format!("or none{OTHER_DAYS}\n");
+        stopped(&["day", "2026", "--holidays", which], 3, &[&what, &hint]);
+    }
+    let missing = ["day", "2026", "--holidays", "holidays.2026"];
+    let outcome = run(&missing);
+    assert!(
+        outcome
+            .said
+            .ends_with("a file with one date a line, or none\n"),
+        "{}",
+        outcome.said
+    );
+}
 
 #[test]
 fn names_that_are_no_regional_days_are_not_understood() {

@@ -1,9 +1,12 @@
 //! `holidays`: the German holidays of a period, with their names, regional days and states.
 use std::fs;
 
+use reference::calendar::Day;
 use reference::holidays::{federal, regional};
 
-use crate::expected::{dashed, expect_text, Source};
+use crate::draw;
+use crate::expected::{dashed, expect_text, federal_list, Source};
+use crate::german::OTHER_DAYS;
 use crate::tool::{folder, says, stopped, text, warned, warnings, written};
 
 /// The names of the days of all of Germany, in the order of source document 000, step 4.
@@ -44,8 +47,8 @@ const WORDS: [&str; 6] = [
 /// What is said of a word that names no regional day.
 const THEY_ARE: &str = "the regional days are epiphany (Heilige Drei Könige), corpus-christi (Fronleichnam), assumption (Mariä Himmelfahrt), reformation-day (Reformationstag), all-saints (Allerheiligen), repentance-day (Buß- und Bettag), split by commas; or say all or none";
 
-/// What every list says of the days that it does not have, and one that has not all days of its years.
-const DECEMBER: &str = "# 24 and 31 December are not listed and count as Saturday, unless they are Sundays; a line for one makes it a Sunday.\n";
+/// What a list of December says of two days that it does not have, and what one says that has not all days of its years.
+const DECEMBER: &str = "# 24 and 31 December are no public holidays: with a line here they count as Sunday, without one as Saturday (on a Sunday as Sunday).\n";
 const PART: &str =
     "# A run that begins earlier (--since) or ends later needs the days before or behind too.\n";
 
@@ -62,11 +65,18 @@ fn german(chosen: &[usize]) -> String {
 /// The list of some days of the span with these regional days, and with what is said of a state.
 fn list_of_state(first: u32, last: u32, chosen: &[usize], remarks: &str) -> String {
     let is_part = first % 10_000 != 101 || last % 10_000 != 1231;
+    let days = &draw::span()[draw::index_of(first).unwrap()..=draw::index_of(last).unwrap()];
+    let is_eve = |day: &Day| [1224, 1231].contains(&(day.date() % 10_000));
     format!(
-        "# German holidays from {} to {}, as --holidays {} works them out\n{remarks}{DECEMBER}{}{}",
+        "# German holidays from {} to {}, as --holidays {} works them out\n{remarks}{}{}{}",
         dashed(first),
         dashed(last),
         german(chosen),
+        if days.iter().any(is_eve) {
+            DECEMBER
+        } else {
+            ""
+        },
         if is_part { PART } else { "" },
         lines(first, last, chosen)
     )
@@ -418,7 +428,7 @@ fn a_run_beyond_the_list_is_warned_of() {
         ("2026-06-30..2026-07-01", "2026-07-01"),
         ("2026-05..2027", "2026-07-01"),
     ] {
-        let warning = format!("{path} has the holidays from 2026-04-01 to 2026-06-30, as it says itself, and the run has {date}: outside them only the dates that it lists count as holidays");
+        let warning = format!("{path} has the holidays from 2026-04-01 to 2026-06-30, as it says itself, and the run has {date}: outside that only the dates that it lists count as holidays");
         assert_eq!(warned_of(beyond, &path), [warning]);
     }
     let source = Source::usual(&folder("holiday_list_beyond_run"));
@@ -443,7 +453,7 @@ fn lists_that_are_put_together_have_all_their_days() {
     put_together(&["2026-Q2", "2026-07..2027"]);
     assert_eq!(warned_of("2026-04-01..2027-12-31", &path), [""; 0]);
     put_together(&["2026-Q1", "2026-Q4"]);
-    let warning = format!("{path} has the holidays from 2026-01-01 to 2026-03-31 and from 2026-10-01 to 2026-12-31, as it says itself, and the run has 2026-04-01: outside them only the dates that it lists count as holidays");
+    let warning = format!("{path} has the holidays from 2026-01-01 to 2026-03-31 and from 2026-10-01 to 2026-12-31, as it says itself, and the run has 2026-04-01: outside that only the dates that it lists count as holidays");
     assert_eq!(warned_of("2026", &path), [warning]);
 }
 
@@ -453,7 +463,7 @@ fn a_list_without_a_date_is_one_all_the_same() {
     let path = text(&folder("holiday_list_empty").join("february.txt"));
     warned(&["holidays", "2026-02", "-o", &path], &[]);
     assert_eq!(warned_of("2026-02", &path), [""; 0]);
-    fs::write(&path, "2026-01-01\n").expect("a list without a first line");
+    fs::write(&path, federal_list(&[2026])).expect("a list without a first line");
     assert_eq!(warned_of("2026", &path), [""; 0]);
     let warning = format!("{path} lists no date of 2027: no day counts as a holiday there");
     assert_eq!(warned_of("2026..2027", &path), [warning]);
@@ -535,6 +545,11 @@ fn words_that_are_no_day_or_state_are_named() {
             "\"by\" is no regional day",
             "; the days of a state are --state Bayern",
         ),
+        (
+            "epiphany,Silvester",
+            "\"Silvester\" is no regional day",
+            OTHER_DAYS,
+        ),
     ] {
         let message = format!("holidays: --regional: {fault}: {THEY_ARE}{hint}\n{see}");
         says(&["holidays", "2000", "--regional", names], 2, &message);
@@ -582,5 +597,8 @@ fn the_help_names_the_regional_days() {
         };
         assert!(help.lines().any(is_its_line), "{word}: {help}");
     }
-    assert!(help.contains("24 and 31 December are not listed"), "{help}");
+    assert!(
+        help.contains("24 and 31 December are no public holidays and\nnot listed"),
+        "{help}"
+    );
 }

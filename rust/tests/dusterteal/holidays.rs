@@ -1,6 +1,7 @@
 //! The list of holidays: how it may be written, and what is said of it.
 use std::path::Path;
 
+use crate::expected::federal_list;
 use crate::made::{table, values, FILE, TABLE};
 use crate::tool::{file, folder, says, warned, warnings, written};
 
@@ -158,7 +159,7 @@ fn no_date_of(path: &str, years: &str) -> Vec<String> {
 #[test]
 fn a_year_without_a_listed_date_is_warned_of() {
     let folder = folder("holidays_years");
-    let path = &file(&folder, "list.txt", "2000-01-01\n2002-01-01\n");
+    let path = &file(&folder, "list.txt", federal_list(&[2000, 2002]));
     for (period, years) in [
         ("2000", ""),
         ("2001", "2001"),
@@ -183,6 +184,53 @@ fn a_year_without_a_listed_date_is_warned_of() {
     ];
     let line = [&explain[..], &["--holidays", path, "--since", "2001-03-26"]].concat();
     assert_eq!(warnings(&line), no_date_of(path, "2001"));
+}
+
+/// A list of a works agreement's day alone stands in place of the public holidays: the first one that it lacks is named. One with both
+/// is not warned of.
+#[test]
+fn a_list_without_the_days_of_all_of_germany_is_warned_of() {
+    let folder = folder("holidays_missing");
+    let alone = &file(&folder, "alone.txt", "2026-12-24 works agreement\n");
+    let whole = federal_list(&[2026]).replace("2026-12-25\n", "2026-12-24\n2026-12-25\n");
+    let whole = &file(&folder, "whole.txt", whole);
+    for (period, missed) in [
+        ("2026", "2026-01-01 (New Year's Day), which all of Germany keeps, nor 8 more such days of the run"),
+        ("2026-Q4", "2026-10-03 (Day of German Unity), which all of Germany keeps, nor 2 more such days of the run"),
+        ("2026-12-24..2026-12-25", "2026-12-25 (Christmas Day), which all of Germany keeps"),
+        ("2026-12-24", ""),
+    ] {
+        let mut expected = vec![format!("{alone} does not list {missed}: a list stands in place of german and needs the public holidays too")];
+        expected.retain(|_| !missed.is_empty());
+        for subcommand in ["series", "sums", "days", "request"] {
+            let line = arguments(subcommand, period, alone);
+            assert_eq!(warnings(&line), expected, "{line:?}");
+            assert_eq!(warnings(&arguments(subcommand, period, whole)), [""; 0]);
+        }
+        assert_eq!(warnings(&["day", period, "--holidays", alone]), expected);
+        assert_eq!(warnings(&["day", period, "--holidays", whole]), [""; 0]);
+    }
+}
+
+/// A date that is mistyped stands outside the days that a list of the tool's says it has.
+#[test]
+fn a_date_outside_the_lists_own_days_is_warned_of() {
+    let folder = folder("holidays_outside");
+    let list = written(&["holidays", "2026"]);
+    let lines = list.lines().count();
+    let path = &file(
+        &folder,
+        "list.txt",
+        list.clone() + "2027-12-24 works agreement\n",
+    );
+    let warning = format!("{path}, line {}: 2027-12-24 lies outside the days that the list says it has, from 2026-01-01 to 2026-12-31", lines + 1);
+    assert_eq!(warnings(&arguments("days", "2026-Q4", path)), [warning]);
+    let path = &file(
+        &folder,
+        "two.txt",
+        list + &written(&["holidays", "2027"]) + "2027-12-31\n",
+    );
+    assert_eq!(warnings(&arguments("days", "2026-Q4", path)), [""; 0]);
 }
 
 #[test]

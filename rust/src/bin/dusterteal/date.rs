@@ -183,6 +183,11 @@ impl Period {
         days.take_while(move |date| *date <= self.last)
     }
 
+    /// Whether a date lies in the period.
+    pub fn contains(self, date: Date) -> bool {
+        (self.first..=self.last).contains(&date)
+    }
+
     /// Whether it begins with a year and ends with one.
     pub fn is_whole_years(self) -> bool {
         self.first.0 % 10_000 == 101 && self.last.0 % 10_000 == 1231

@@ -58,11 +58,12 @@ const SOURCES: &str = "
 const LISTS: &str = "  --holidays WHICH      german     the days of all of Germany, worked out
                         german:NAME,.. or german:all
                                    these and regional days, which `dusterteal holidays --help` names
-                        FILE       a file with one date a line, with or without a name behind it; one that is called german
-                                   or none is ./german, ./none
+                        FILE       a file with one date a line, with or without a name behind it, in place of german: it has
+                                   to have the public holidays too (`dusterteal holidays` writes them); one that is called
+                                   german or none is ./german, ./none
                         none       no day
-                        A listed date counts as Sunday. 24 and 31 December count as Saturday, unless they are Sundays or a FILE has
-                        them; german has neither.
+                        A listed date counts as Sunday, also 24 and 31 December. Not listed, these two count as
+                        Saturday (on a Sunday as Sunday); german lists neither.
 ";
 
 const BEGINNING: &str = "  --since DATE          begin the run on DATE and write PERIOD alone, so that parts join to the whole
@@ -142,13 +143,14 @@ fn sums() -> String {
 
 fn days() -> String {
     let does = "Writes a line for each day (date, season and day type, quarter hours, Wh) and a last line with days, quarter hours, Wh and
-carry, as the program slp prints it: the run begins on the period's first day with carry 0.";
+carry, as the program slp prints it: the run begins on the period's first day with carry 0. W is winter, S summer, T transition;
+1 weekday, 2 Saturday, 3 Sunday.";
     run("days GROUP PERIOD KWH", does, &[FILES])
 }
 
 fn explain() -> String {
-    let does = "Says how the figure of one quarter hour comes about, line by line with its place in the papers: source document 000 and
-document 01. DATE, TIME and offset are those of a line of the series.";
+    let does = "Says how the figure of one quarter hour comes about, line by line with its place in the papers: source document 000,
+document 01 and the change requests of document 02. DATE, TIME and offset are those of a line of the series.";
     let beginning = "  --since DATE          the day on which the run begins: the first of the series that has the figure
   --carry N             the carry that it begins with, 0 to 39999, in 1/40000 Wh
                         Without either the run begins on DATE with carry 0, which a figure of a longer series need not have.
@@ -166,7 +168,8 @@ fn day() -> String {
         "dusterteal day PERIOD [--holidays german|FILE|none]
 
 Writes the calendar of a period as CSV: t;date;weekday;season;day type;why;values. PERIOD is as in `series`, of any length. Without
---holidays no day is listed.
+--holidays no day is listed. `why` is the first of these that settles the day type: Sunday; listed, with the name; 24 or 31 December,
+not listed; Saturday; Monday to Friday.
 
 {LISTS}{FILES}"
     )
@@ -187,8 +190,9 @@ fn holidays() -> String {
 
 Writes the German holidays of a period, one date a line with its name: the eleven days that all of Germany keeps, and the regional
 days that are asked for. PERIOD is as in `series`, of any length in 1996 to 2099. `--holidays` reads the list; to have the same days
-in a run without a file, say --holidays german or --holidays german:NAME,.. there. 24 and 31 December are not listed and
-count as Saturday, unless they are Sundays; where an agreement makes one a full holiday, add its line, and it counts as Sunday.
+in a run without a file, say --holidays german or --holidays german:NAME,.. there. 24 and 31 December are no public holidays and
+not listed: they count as Saturday (on a Sunday as Sunday). Where an agreement makes one of them a full holiday, put a line with
+its date into the list, 2026-12-24 works agreement, and it counts as Sunday.
 
   --regional NAME,..    regional days, beside those of --state; or all; or none, as without it. A name is in English or German, with
                         hyphens for blanks:{names}

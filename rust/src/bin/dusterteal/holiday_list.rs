@@ -4,7 +4,7 @@ use std::ffi::OsString;
 use slp::{Refusal, RefusalKind, RegionalDay};
 
 use crate::arguments::{self, Arguments, Choice, Grammar};
-use crate::date::Period;
+use crate::date::{Date, Period};
 use crate::failure::{warn, Failure};
 use crate::files::{Made, Output};
 use crate::german::{self, Holiday};
@@ -59,9 +59,15 @@ pub fn make(given: &[OsString]) -> Result<Made, Failure> {
 
 /// What a list says of days that it does not have.
 fn about_days(period: Period) -> String {
-    let mut text = String::from(
-        "# 24 and 31 December are not listed and count as Saturday, unless they are Sundays; a line for one makes it a Sunday.\n",
-    );
+    let eves = |year| [Date::new(year, 12, 24), Date::new(year, 12, 31)];
+    let mut text = String::new();
+    if period
+        .years()
+        .flat_map(eves)
+        .any(|eve| period.contains(eve))
+    {
+        text += "# 24 and 31 December are no public holidays: with a line here they count as Sunday, without one as Saturday (on a Sunday as Sunday).\n";
+    }
     if !period.is_whole_years() {
         text += "# A run that begins earlier (--since) or ends later needs the days before or behind too.\n";
     }
@@ -76,7 +82,7 @@ fn holidays(word: &str, period: Period, days: &[RegionalDay]) -> Result<Vec<Holi
             german::of_year(year, days).map_err(|refusal| refused(word, year, refusal))?;
         holidays.extend(of_year);
     }
-    holidays.retain(|holiday| (period.first..=period.last).contains(&holiday.date));
+    holidays.retain(|holiday| period.contains(holiday.date));
     Ok(holidays)
 }
 
@@ -100,9 +106,10 @@ fn refused(word: &str, year: u32, refusal: Refusal) -> Failure {
 }
 
 /// What may be meant by a text that is no regional day.
-fn state_meant(text: &str) -> String {
+fn hint(text: &str) -> String {
     match State::parse(text) {
         Ok(state) => format!("; the days of a state are --state {}", state.name),
+        Err(_) if regional::has_other_day(text) => regional::OTHER_DAYS.to_owned(),
         Err(_) => String::new(),
     }
 }
@@ -118,8 +125,9 @@ impl Chosen {
     fn of(arguments: &Arguments) -> Result<Chosen, Failure> {
         let fault = |name: &str, what: String| GRAMMAR.fault(&format!("{name}: {what}"));
         let named = match arguments.text("--regional") {
-            Some(text) => regional::parse(&text)
-                .map_err(|what| fault("--regional", what + &state_meant(&text)))?,
+            Some(text) => {
+                regional::parse(&text).map_err(|what| fault("--regional", what + &hint(&text)))?
+            }
             None => Vec::new(),
         };
         let state = match arguments.text("--state") {

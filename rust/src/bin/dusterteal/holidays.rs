@@ -49,6 +49,7 @@ fn hint(value: &str, names: &str) -> String {
     match State::parse(names) {
         Ok(state) => of_state(state),
         Err(_) if Path::new(value).exists() => format!("; the file of this name is ./{value}"),
+        Err(_) if regional::has_other_day(names) => regional::OTHER_DAYS.to_owned(),
         Err(_) => String::new(),
     }
 }
@@ -179,44 +180,86 @@ impl Holidays {
         found.ok().map(|at| self.listed[at].name.as_str())
     }
 
-    /// Warns of days of a run that the list of a file does not know: those outside the periods that it says it has, or, where it says
-    /// nothing, years without a listed date.
+    /// Warns of what the list of a file is likely to lack for a run: days outside the periods that it says it has, or, where it says
+    /// nothing, the days of years without a listed date; days that all of Germany keeps; dates that stand outside those periods.
     pub fn warn_of_gaps(&self, run: Period) {
         let Some(source) = self.file() else { return };
         let gap = match self.said.is_empty() {
             true => self.years_without_a_date(run),
             false => self.day_outside(run),
         };
-        if let Some(gap) = gap {
-            warn(&format!("{} {gap}", source.name));
+        let found = [gap, self.days_missing(run), self.date_outside()];
+        for what in found.into_iter().flatten() {
+            warn(&format!("{}{what}", source.name));
         }
     }
 
     /// What is said of a day of a run that lies outside the periods.
     fn day_outside(&self, run: Period) -> Option<String> {
-        let is_inside = |date: &Date| {
-            let mut periods = self.said.iter();
-            periods.any(|period| (period.first..=period.last).contains(date))
-        };
-        let date = run.days().find(|date| !is_inside(date))?;
-        let words = |Period { first, last }: &Period| format!("from {first} to {last}");
-        let periods: Vec<String> = self.said.iter().map(words).collect();
+        let date = run.days().find(|date| !self.is_said(*date))?;
         Some(format!(
-            "has the holidays {}, as it says itself, and the run has {date}: outside them only the dates that it lists count as holidays",
-            periods.join(" and ")
+            " has the holidays {}, as it says itself, and the run has {date}: outside that only the dates that it lists count as holidays",
+            self.said_in_words()
         ))
     }
 
-    fn years_without_a_date(&self, run: Period) -> Option<String> {
-        let years = self.empty_years(run);
-        let words = in_words(&years);
-        (!years.is_empty())
-            .then(|| format!("lists no date of {words}: no day counts as a holiday there"))
+    /// What is said of a listed date that lies outside the periods.
+    fn date_outside(&self) -> Option<String> {
+        let Listed { date, line, .. } = self
+            .listed
+            .iter()
+            .find(|listed| !self.is_said(listed.date))?;
+        Some(format!(
+            ", line {line}: {date} lies outside the days that the list says it has, {}",
+            self.said_in_words()
+        ))
     }
 
-    fn empty_years(&self, period: Period) -> Vec<u32> {
-        let has = |year: u32| self.listed.iter().any(|listed| listed.date.year() == year);
-        period.years().filter(|year| !has(*year)).collect()
+    /// Whether a day lies in one of the periods, or the list says nothing of itself.
+    fn is_said(&self, date: Date) -> bool {
+        let mut periods = self.said.iter();
+        self.said.is_empty() || periods.any(|period| period.contains(date))
+    }
+
+    fn said_in_words(&self) -> String {
+        let words = |Period { first, last }: &Period| format!("from {first} to {last}");
+        let periods: Vec<String> = self.said.iter().map(words).collect();
+        periods.join(" and ")
+    }
+
+    fn years_without_a_date(&self, run: Period) -> Option<String> {
+        let years: Vec<u32> = run.years().filter(|year| !self.has(*year)).collect();
+        let words = in_words(&years);
+        (!years.is_empty())
+            .then(|| format!(" lists no date of {words}: no day counts as a holiday there"))
+    }
+
+    /// What is said of days of a run that all of Germany keeps and that the list lacks, though it has dates of their year. A Sunday need
+    /// not be listed.
+    fn days_missing(&self, run: Period) -> Option<String> {
+        let years = run.years().filter(|year| self.has(*year));
+        let days = years.flat_map(|year| german::of_year(year, &[]).unwrap_or_default());
+        let is_missing = |Holiday { date, .. }: &Holiday| {
+            let is_sunday = slp::day(date.0, &[]).is_ok_and(|day| day.weekday == 7);
+            run.contains(*date)
+                && self.is_said(*date)
+                && self.name_of(*date).is_none()
+                && !is_sunday
+        };
+        let missing: Vec<Holiday> = days.filter(is_missing).collect();
+        let Holiday { date, name } = missing.first()?;
+        let more = match missing.len() {
+            1 => String::new(),
+            2 => ", nor one more such day of the run".to_owned(),
+            count => format!(", nor {} more such days of the run", count - 1),
+        };
+        Some(format!(
+            " does not list {date} ({name}), which all of Germany keeps{more}: a list stands in place of german and needs the public holidays too"
+        ))
+    }
+
+    fn has(&self, year: u32) -> bool {
+        self.listed.iter().any(|listed| listed.date.year() == year)
     }
 
     /// What is wrong with the entry that question 9 names.
@@ -242,11 +285,13 @@ impl Holidays {
 fn or_else(failure: Failure, path: &OsStr) -> Failure {
     match failure {
         Failure::Unusable(what) => {
-            let state = State::parse(&path.to_string_lossy()).map_or(String::new(), of_state);
-            Failure::Unusable(format!(
-                "{what}; --holidays takes {}{state}",
-                help::HOLIDAYS
-            ))
+            let text = path.to_string_lossy();
+            let hint = match State::parse(&text) {
+                Ok(state) => of_state(state),
+                Err(_) if regional::has_other_day(&text) => regional::OTHER_DAYS.to_owned(),
+                Err(_) => String::new(),
+            };
+            Failure::Unusable(format!("{what}; --holidays takes {}{hint}", help::HOLIDAYS))
         }
         other => other,
     }
@@ -445,9 +490,10 @@ mod tests {
     #[test]
     fn a_year_without_a_date_is_found() {
         let list = holidays("2000-01-01\n2002-01-01\n");
-        let years = |text| list.empty_years(Period::parse(text).unwrap());
-        assert_eq!(years("2000"), []);
-        assert_eq!(years("1999-12-31..2003-01-01"), [1999, 2001, 2003]);
+        let gap = |text| list.years_without_a_date(Period::parse(text).unwrap());
+        assert_eq!(gap("2000"), None);
+        let missing = " lists no date of 1999, 2001, 2003: no day counts as a holiday there";
+        assert_eq!(gap("1999-12-31..2003-01-01").as_deref(), Some(missing));
         assert_eq!(
             in_words(&[1999, 2001, 2002, 2003, 2005, 2006]),
             "1999, 2001 to 2003, 2005 to 2006"
@@ -492,6 +538,28 @@ mod tests {
         let fault = wanted("german:bavaria").unwrap_err();
         let hint = "; the list of a state is made by `dusterteal holidays YEAR --state Bayern -o FILE` and read by --holidays FILE\n";
         assert!(fault.contains(hint), "{fault}");
+    }
+
+    /// Of the days that all of Germany keeps, those of the run count, in years with a listed date; Sundays need not be listed.
+    #[test]
+    fn a_day_that_all_of_germany_keeps_is_missed() {
+        let missed = |list: &Holidays, run| list.days_missing(Period::parse(run).unwrap());
+        let message = |what: &str| {
+            Some(format!(
+                " does not list {what}: a list stands in place of german and needs the public holidays too"
+            ))
+        };
+        let eve = holidays("2026-12-24\n");
+        let first = "2026-01-01 (New Year's Day), which all of Germany keeps, nor 8 more such days of the run";
+        assert_eq!(missed(&eve, "2026"), message(first));
+        let christmas = "2026-12-25 (Christmas Day), which all of Germany keeps";
+        let two = format!("{christmas}, nor one more such day of the run");
+        assert_eq!(missed(&eve, "2026-12-24..2026-12-31"), message(&two));
+        assert_eq!(missed(&eve, "2026-12-25"), message(christmas));
+        assert_eq!(missed(&eve, "2026-12-24"), None);
+        assert_eq!(missed(&eve, "2025"), None);
+        let weekdays = holidays("1999-12-25\n");
+        assert_eq!(missed(&weekdays, "1999-12-24..1999-12-31"), None);
     }
 
     fn german(run: &str, regional: &[RegionalDay]) -> Holidays {

@@ -1,6 +1,7 @@
 //! The regional days as the user names them.
 use slp::RegionalDay;
 
+use crate::date::Date;
 use crate::text::{plain, quoted};
 
 /// The word for each day, and what else one may call it beside its names in English and in German.
@@ -12,6 +13,28 @@ const WORDS: [(&str, &[&str]); 6] = [
     ("all-saints", &[]),
     ("repentance-day", &["repentance"]),
 ];
+
+/// What 24 and 31 December are called, which are no public holidays.
+const EVES: [&str; 8] = [
+    "Christmas Eve",
+    "24 December",
+    "Heiligabend",
+    "24. Dezember",
+    "New Year's Eve",
+    "31 December",
+    "Silvester",
+    "31. Dezember",
+];
+
+/// What is said of days that are no public holidays.
+pub const OTHER_DAYS: &str = "; a day that is no public holiday, as 24 December, is a line in a file: `dusterteal holidays YEAR -o FILE` writes a list, put the day in and say --holidays FILE";
+
+/// Whether one of the words of a text is a date or names 24 or 31 December.
+pub fn has_other_day(text: &str) -> bool {
+    let is_eve = |word: &str| EVES.iter().any(|eve| plain(eve) == plain(word));
+    let mut words = text.split([',', '+', ':']);
+    words.any(|word| is_eve(word) || Date::parse(word.trim()).is_some())
+}
 
 /// The word for a day.
 pub fn word(day: RegionalDay) -> &'static str {
@@ -149,6 +172,23 @@ mod tests {
             let beginning =
                 format!("{fault}: the regional days are epiphany (Heilige Drei Könige), corpus-");
             assert!(what.starts_with(&beginning), "{text}: {what}");
+        }
+    }
+
+    #[test]
+    fn a_date_and_christmas_eve_are_other_days() {
+        for text in [
+            "christmas-eve",
+            "epiphany,Heiligabend",
+            "31. Dezember",
+            "new-year's-eve",
+            "german+2026-12-24",
+            "24.12.2026",
+        ] {
+            assert!(has_other_day(text), "{text}");
+        }
+        for text in ["", "easter", "epiphany", "2026", "holidays.txt"] {
+            assert!(!has_other_day(text), "{text}");
         }
     }
 }
