@@ -180,10 +180,10 @@ struct slp_response_report slp_respond(const uint8_t *input, size_t input_length
  * Writes the German holidays of `year` into the first entries of `list` and keeps those beyond: the eleven days that all of
  * Germany keeps (New Year, Good Friday, Easter Sunday and Monday, 1 May, Ascension Day, Whit Sunday and Monday, 3 October, 25 and
  * 26 December), and the regional days whose bits are set in `choice`: SLP_EPIPHANY (bit 0), SLP_CORPUS_CHRISTI (1), SLP_ASSUMPTION
- * (2), SLP_REFORMATION (3), SLP_ALL_SAINTS (4), SLP_REPENTANCE (5), joined by |; 0 for none. The dates rise, and one that is met twice
- * (1 May 2008, Ascension Day too) is listed once, so slp_day and slp_expand take the list. 24 and 31 December are no
- * public holidays and not in it, so that they count as Saturday where they are no Sundays; where an agreement makes one of them a full
- * holiday, insert it where the dates still rise (lend an entry more for it). Questions 14, 15 and 16 (place: the entries needed;
+ * (2), SLP_REFORMATION (3), SLP_ALL_SAINTS (4), SLP_REPENTANCE (5), joined by |; 0 for none. The dates rise, and one that is met
+ * twice (1 May 2008, Ascension Day too) is listed once, so slp_day and slp_expand take the list. 24 and 31 December are no public
+ * holidays and not in it, so that they count as Saturday where they are no Sundays; where an agreement makes one of them a full holiday,
+ * insert it where the dates still rise (lend an entry more for it). Questions 14, 15 and 16 (place: the entries needed;
  * SLP_MOST_HOLIDAYS is always enough).
  */
 struct slp_holidays_report slp_holidays(uint32_t year, uint8_t choice, uint32_t *list, size_t list_length);

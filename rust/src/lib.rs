@@ -328,7 +328,8 @@ pub fn respond(input: &[u8], page: &mut [u8]) -> Result<usize, Refusal> {
 ///
 /// The dates rise, and one that is met twice is listed once, as 1 May 2008, which is Ascension Day too. So the list is one that
 /// [`day`] and [`expand`] take. 24 and 31 December are no public holidays and not in it, so that they count as Saturday where they
-/// are no Sundays; where an agreement makes one of them a full holiday, insert it where the dates still rise.
+/// are no Sundays; where an agreement makes one of them a full holiday, insert it where the dates still rise
+/// (lend an entry more for it).
 ///
 /// ```
 /// let mut list = [0; slp::MOST_HOLIDAYS];

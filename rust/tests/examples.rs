@@ -246,8 +246,8 @@ fn pasted() -> Vec<String> {
     whole.map(str::to_owned).collect()
 }
 
-/// Runs a command of the README in the repository's folder, as it is pasted there.
-fn paste(command: &str) -> Vec<u8> {
+/// What a command of the README writes that is pasted in the repository's folder. Only the regional days of a state are warned of.
+fn paste(command: &str) -> String {
     let tool = Path::new(env!("CARGO_BIN_EXE_dusterteal"));
     let path = format!(
         "{}:{}",
@@ -262,7 +262,8 @@ fn paste(command: &str) -> Vec<u8> {
         .expect("it runs");
     let said = String::from_utf8_lossy(&output.stderr);
     assert!(output.status.success(), "{command}: {said}");
-    output.stdout
+    assert_eq!(said.is_empty(), !command.contains(" --state "), "{said}");
+    String::from_utf8(output.stdout).expect("text")
 }
 
 #[test]
@@ -280,11 +281,13 @@ fn the_commands_of_the_readme_run() {
             "sed", "day", "days", "days"
         ]
     );
+    let mut agreements = 0;
     for command in &commands {
         let is_file = command.contains(" -o ") || command.starts_with("sed");
-        let written = String::from_utf8(paste(command)).expect("text");
+        let written = paste(command);
         assert_eq!(written.is_empty(), is_file, "{command}");
-        if command.contains("day 2026-12-23") {
+        if command.starts_with("dusterteal day ") && command.ends_with("agreement.txt") {
+            agreements += 1;
             let eves = [
                 "Sunday;listed: works agreement",
                 "Saturday;31 December, not listed",
@@ -292,6 +295,7 @@ fn the_commands_of_the_readme_run() {
             assert!(eves.iter().all(|eve| written.contains(eve)), "{written}");
         }
     }
+    assert_eq!(agreements, 1);
 }
 
 /// The lines of a series that the README shows are those of its first command's run.
@@ -307,7 +311,7 @@ fn the_lines_of_the_readme_are_those_of_its_series() {
         .remove(0)
         .replace("2000-Q2", "2000-10-29")
         .replace("target/series.csv", "-");
-    let series = String::from_utf8(paste(&command)).expect("text");
+    let series = paste(&command);
     for line in shown {
         assert!(series.contains(&format!("\n2000-10-29;{line}\n")), "{line}");
     }

@@ -423,8 +423,8 @@ const UNKNOWN: [(&str, &str, &str); 6] = [
     ),
 ];
 
-/// What is said to someone who wants a day that is no public holiday.
-pub const OTHER_DAYS: &str = "; a day that is no public holiday, as 24 December, is a line in a file: `dusterteal holidays YEAR -o FILE` writes a list, put the day in and say --holidays FILE";
+/// What is said to someone who wants a day that is not worked out.
+pub const OTHER_DAYS: &str = "; any other day, as 24 December, is a line in a file: `dusterteal holidays YEAR -o FILE` writes a list, put the day in and say --holidays FILE";
 
 #[test]
 fn a_date_is_no_file() {

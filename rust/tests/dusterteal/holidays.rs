@@ -186,6 +186,16 @@ fn a_year_without_a_listed_date_is_warned_of() {
     assert_eq!(warnings(&line), no_date_of(path, "2001"));
 }
 
+/// The warning of a list that lacks some public holidays.
+fn missing(path: &str, days: &str) -> Vec<String> {
+    match days {
+        "" => Vec::new(),
+        _ => vec![format!(
+            "{path} does not list {days}: a list stands in place of german and needs the public holidays too"
+        )],
+    }
+}
+
 /// A list of a works agreement's day alone stands in place of the public holidays: the first one that it lacks is named. One with both
 /// is not warned of.
 #[test]
@@ -200,8 +210,7 @@ fn a_list_without_the_days_of_all_of_germany_is_warned_of() {
         ("2026-12-24..2026-12-25", "2026-12-25 (Christmas Day), which all of Germany keeps"),
         ("2026-12-24", ""),
     ] {
-        let mut expected = vec![format!("{alone} does not list {missed}: a list stands in place of german and needs the public holidays too")];
-        expected.retain(|_| !missed.is_empty());
+        let expected = missing(alone, missed);
         for subcommand in ["series", "sums", "days", "request"] {
             let line = arguments(subcommand, period, alone);
             assert_eq!(warnings(&line), expected, "{line:?}");
@@ -210,6 +219,39 @@ fn a_list_without_the_days_of_all_of_germany_is_warned_of() {
         assert_eq!(warnings(&["day", period, "--holidays", alone]), expected);
         assert_eq!(warnings(&["day", period, "--holidays", whole]), [""; 0]);
     }
+}
+
+/// A list of the tool's that says it has a day, and lacks it, is warned of; also one of whose dates none is left.
+#[test]
+fn a_list_of_the_tools_that_lost_days_is_warned_of() {
+    let folder = folder("holidays_lost");
+    let list = written(&["holidays", "2026..2027"]);
+    let without = |lost: &[&str]| {
+        let is_kept = |line: &&str| !lost.iter().any(|lost| line.starts_with(lost));
+        let lines = list.lines().filter(is_kept);
+        lines.map(|line| line.to_owned() + "\n").collect::<String>()
+    };
+    for (period, lost, missed) in [
+        ("2026..2027", &["2026-12-2"][..], "2026-12-25 (Christmas Day), which all of Germany keeps, nor one more such day of the run"),
+        ("2026..2027", &["2027"], "2027-01-01 (New Year's Day), which all of Germany keeps, nor 6 more such days of the run"),
+        ("2026-12", &["2026", "2027"], "2026-12-25 (Christmas Day), which all of Germany keeps, nor one more such day of the run"),
+        ("2026-02", &["2026", "2027"], ""),
+        ("2026..2027", &[], ""),
+    ] {
+        let path = &file(&folder, "list.txt", without(lost));
+        let expected = missing(path, missed);
+        assert_eq!(warnings(&["day", period, "--holidays", path]), expected);
+        assert_eq!(warnings(&arguments("days", period, path)), expected);
+    }
+}
+
+/// What is refused is not warned of.
+#[test]
+fn a_refused_list_is_said_to_be_refused_alone() {
+    let path = &file(&folder("holidays_refused"), "list.txt", "2026-02-30\n");
+    let refusal = format!("{path}, line 1: 2026-02-30 does not exist: February 2026 has 28 days (question 9, place 0)");
+    says(&["day", "2026", "--holidays", path], 1, &refusal);
+    says(&arguments("days", "2026", path), 1, &refusal);
 }
 
 /// A date that is mistyped stands outside the days that a list of the tool's says it has.

@@ -28,11 +28,11 @@ pub fn make(given: &[OsString]) -> Result<Made, Failure> {
     let holidays = arguments.value("--holidays").unwrap_or(OsStr::new("none"));
     let holidays = Holidays::load(&Wanted::parse(&GRAMMAR, holidays)?, period)?;
     run::expect_period(&word, period)?;
-    holidays.warn_of_gaps(period);
     let mut text = String::from("t;date;weekday;season;day type;why;values\n");
     for date in period.days() {
         text += &row(date, &holidays)?;
     }
+    holidays.warn_of_gaps(period);
     Ok(Made::of(
         Output::text(arguments.target(), text),
         holidays

@@ -221,23 +221,31 @@ impl Holidays {
         self.said.is_empty() || periods.any(|period| period.contains(date))
     }
 
+    /// The periods in words, those that follow each other in one.
     fn said_in_words(&self) -> String {
-        let words = |Period { first, last }: &Period| format!("from {first} to {last}");
-        let periods: Vec<String> = self.said.iter().map(words).collect();
-        periods.join(" and ")
+        let runs = self
+            .said
+            .chunk_by(|period, next| period.last.next() == next.first);
+        let words =
+            |run: &[Period]| format!("from {} to {}", run[0].first, run[run.len() - 1].last);
+        runs.map(words).collect::<Vec<_>>().join(" and ")
     }
 
     fn years_without_a_date(&self, run: Period) -> Option<String> {
-        let years: Vec<u32> = run.years().filter(|year| !self.has(*year)).collect();
+        let years: Vec<u32> = run
+            .years()
+            .filter(|year| !self.has_date_of(*year))
+            .collect();
         let words = in_words(&years);
         (!years.is_empty())
             .then(|| format!(" lists no date of {words}: no day counts as a holiday there"))
     }
 
-    /// What is said of days of a run that all of Germany keeps and that the list lacks, though it has dates of their year. A Sunday need
-    /// not be listed.
+    /// What is said of days of a run that all of Germany keeps and that the list lacks, though it says that it has their period or has a
+    /// date of their year. A Sunday need not be listed. A year outside the span, which question 7 refuses, has no such days.
     fn days_missing(&self, run: Period) -> Option<String> {
-        let years = run.years().filter(|year| self.has(*year));
+        let is_known = |year: &u32| !self.said.is_empty() || self.has_date_of(*year);
+        let years = run.years().filter(is_known);
         let days = years.flat_map(|year| german::of_year(year, &[]).unwrap_or_default());
         let is_missing = |Holiday { date, .. }: &Holiday| {
             let is_sunday = slp::day(date.0, &[]).is_ok_and(|day| day.weekday == 7);
@@ -258,7 +266,7 @@ impl Holidays {
         ))
     }
 
-    fn has(&self, year: u32) -> bool {
+    fn has_date_of(&self, year: u32) -> bool {
         self.listed.iter().any(|listed| listed.date.year() == year)
     }
 
@@ -315,7 +323,7 @@ fn parse(text: &str) -> Result<Vec<Listed>, String> {
         };
         if let Some(second) = second_date(name) {
             return Err(format!(
-                "line {line}: a second date, {second}: a line has one"
+                "line {line}: a second date, {second}: a line has one, and its name none"
             ));
         }
         let name = name.to_owned();
@@ -430,7 +438,8 @@ mod tests {
             ("2026-12-25 20261226", "20261226"),
         ] {
             let fault = parse(&format!("2026-01-01\n{line}\n")).unwrap_err();
-            let what = format!("line 2: a second date, {second}: a line has one");
+            let what =
+                format!("line 2: a second date, {second}: a line has one, and its name none");
             assert_eq!(fault, what, "{line}");
         }
         assert_eq!(

@@ -15,25 +15,28 @@ const WORDS: [(&str, &[&str]); 6] = [
 ];
 
 /// What 24 and 31 December are called, which are no public holidays.
-const EVES: [&str; 8] = [
+const EVES: [&str; 11] = [
     "Christmas Eve",
     "24 December",
     "Heiligabend",
+    "Heiliger Abend",
     "24. Dezember",
+    "24.12.",
     "New Year's Eve",
     "31 December",
     "Silvester",
     "31. Dezember",
+    "31.12.",
 ];
 
-/// What is said of days that are no public holidays.
-pub const OTHER_DAYS: &str = "; a day that is no public holiday, as 24 December, is a line in a file: `dusterteal holidays YEAR -o FILE` writes a list, put the day in and say --holidays FILE";
+/// What is said of days that are none of those worked out.
+pub const OTHER_DAYS: &str = "; any other day, as 24 December, is a line in a file: `dusterteal holidays YEAR -o FILE` writes a list, put the day in and say --holidays FILE";
 
 /// Whether one of the words of a text is a date or names 24 or 31 December.
 pub fn has_other_day(text: &str) -> bool {
     let is_eve = |word: &str| EVES.iter().any(|eve| plain(eve) == plain(word));
-    let mut words = text.split([',', '+', ':']);
-    words.any(|word| is_eve(word) || Date::parse(word.trim()).is_some())
+    let is_date = |word: &str| Date::parse(word).is_some();
+    text.split([',', '+', ':']).any(is_eve) || text.split([',', '+', ':', ' ']).any(is_date)
 }
 
 /// The word for a day.
@@ -183,7 +186,8 @@ mod tests {
             "31. Dezember",
             "new-year's-eve",
             "german+2026-12-24",
-            "24.12.2026",
+            "german 24.12.2026",
+            "24.12",
         ] {
             assert!(has_other_day(text), "{text}");
         }
