@@ -549,6 +549,20 @@ mod tests {
         assert!(fault.contains(hint), "{fault}");
     }
 
+    /// The periods of lists put together are one where they follow each other.
+    #[test]
+    fn periods_that_follow_each_other_are_one() {
+        let said = ["2026", "2027-Q1", "2027-Q3", "2027-Q4", "2029"];
+        let list = Holidays {
+            said: said.map(|text| Period::parse(text).unwrap()).into(),
+            ..holidays("")
+        };
+        assert_eq!(
+            list.said_in_words(),
+            "from 2026-01-01 to 2027-03-31 and from 2027-07-01 to 2027-12-31 and from 2029-01-01 to 2029-12-31"
+        );
+    }
+
     /// Of the days that all of Germany keeps, those of the run count, in years with a listed date; Sundays need not be listed.
     #[test]
     fn a_day_that_all_of_germany_keeps_is_missed() {
