@@ -88,6 +88,10 @@ no-saturday same =
     let three : _≡_ {A = ℕ} 3 2 = ap place same in
     omega arith
 
+either-way : (b : Bool) (t : DayType) → cond b t t ≡ t
+either-way true t = refl
+either-way false t = refl
+
 module _ (d : Date) (holidays : List ℕ) where
   abbrev isListed : Bool
   isListed = listed (numberOf d) holidays
@@ -98,11 +102,7 @@ module _ (d : Date) (holidays : List ℕ) where
 
   on-listed : isListed ≡ true → dayType d holidays ≡ Sunday
   unfolding dayTypeWhen
-  on-listed l = rw l (either (eqb (weekdayOf d) 7))
-    where
-      either : (b : Bool) → cond b Sunday Sunday ≡ Sunday
-      either true = refl
-      either false = refl
+  on-listed l = rw l (either-way (eqb (weekdayOf d) 7) Sunday)
 
   on-eve : isListed ≡ false → Eve d → (weekdayOf d ≡ 7 → ⊥) → dayType d holidays ≡ Saturday
   unfolding dayTypeWhen
@@ -110,11 +110,7 @@ module _ (d : Date) (holidays : List ℕ) where
 
   on-saturday : isListed ≡ false → weekdayOf d ≡ 6 → dayType d holidays ≡ Saturday
   unfolding dayTypeWhen
-  on-saturday l h = rw (l, h) (either (isEve d))
-    where
-      either : (b : Bool) → cond b Saturday Saturday ≡ Saturday
-      either true = refl
-      either false = refl
+  on-saturday l h = rw (l, h) (either-way (isEve d) Saturday)
 
   on-weekday : isListed ≡ false → (Eve d → ⊥) → weekdayOf d ≤ 5 → dayType d holidays ≡ Weekday
   unfolding dayTypeWhen

@@ -109,8 +109,7 @@ fn refused(word: &str, year: u32, refusal: Refusal) -> Failure {
 fn hint(text: &str) -> String {
     match State::parse(text) {
         Ok(state) => format!("; the days of a state are --state {}", state.name),
-        Err(_) if regional::has_other_day(text) => regional::OTHER_DAYS.to_owned(),
-        Err(_) => String::new(),
+        Err(_) => regional::hint(text),
     }
 }
 

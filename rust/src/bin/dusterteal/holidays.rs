@@ -49,8 +49,7 @@ fn hint(value: &str, names: &str) -> String {
     match State::parse(names) {
         Ok(state) => of_state(state),
         Err(_) if Path::new(value).exists() => format!("; the file of this name is ./{value}"),
-        Err(_) if regional::has_other_day(names) => regional::OTHER_DAYS.to_owned(),
-        Err(_) => String::new(),
+        Err(_) => regional::hint(names),
     }
 }
 
@@ -296,8 +295,7 @@ fn or_else(failure: Failure, path: &OsStr) -> Failure {
             let text = path.to_string_lossy();
             let hint = match State::parse(&text) {
                 Ok(state) => of_state(state),
-                Err(_) if regional::has_other_day(&text) => regional::OTHER_DAYS.to_owned(),
-                Err(_) => String::new(),
+                Err(_) => regional::hint(&text),
             };
             Failure::Unusable(format!("{what}; --holidays takes {}{hint}", help::HOLIDAYS))
         }

@@ -30,10 +30,18 @@ const EVES: [&str; 11] = [
 ];
 
 /// What is said of days that are none of those worked out.
-pub const OTHER_DAYS: &str = "; any other day, as 24 December, is a line in a file: `dusterteal holidays YEAR -o FILE` writes a list, put the day in and say --holidays FILE";
+const OTHER_DAYS: &str = "; any other day, as 24 December, is a line in a file: `dusterteal holidays YEAR -o FILE` writes a list, put the day in and say --holidays FILE";
+
+/// What may be meant by a text that names no regional day.
+pub fn hint(text: &str) -> String {
+    match has_other_day(text) {
+        true => OTHER_DAYS.to_owned(),
+        false => String::new(),
+    }
+}
 
 /// Whether one of the words of a text is a date or names 24 or 31 December.
-pub fn has_other_day(text: &str) -> bool {
+fn has_other_day(text: &str) -> bool {
     let is_eve = |word: &str| EVES.iter().any(|eve| plain(eve) == plain(word));
     let is_date = |word: &str| Date::parse(word).is_some();
     text.split([',', '+', ':']).any(is_eve) || text.split([',', '+', ':', ' ']).any(is_date)
