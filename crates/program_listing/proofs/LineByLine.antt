@@ -1,5 +1,5 @@
 -- A period's lines, one after the other: what is put, with the lines of the days left, is the whole. Laws for the loop's start, turn
--- and end. The totals follow by series' law of the days left.
+-- and end. The totals follow by series_totals' laws of the days left.
 -- Assumes nothing.
 use mathlib.Core.Path.{_≡_, refl, sym, _∙_}
 use mathlib.Core.List.{List, [], _++_, append-nil, append-assoc}
@@ -11,13 +11,12 @@ use Rattle.calendar_dates.specs.Dates.{nextDay}
 use Rattle.calendar_days.specs.Days.{dayKind}
 use Rattle.calendar_period.specs.declared.CalendarDay.{CalendarDay}
 use Rattle.calendar_period.specs.Inside.{calendarDay, RealDays}
-use Rattle.calendar_period.proofs.Period.{values-small}
 use Rattle.carry.specs.Carry.{lastCarry}
 use Rattle.day_powers.specs.DayQuarters.{Basis}
 use Rattle.series.specs.Inside.{GroupValues, InRange}
 use Rattle.series.proofs.OneDay.{dayPowers}
-use Rattle.series.proofs.DayByDay.{start, powersFrom, length-powers, whole-fits, DaysLeft, all-done, day-room, day-turn}
-use Rattle.series.proofs.Series.{length-quarters}
+use Rattle.series.proofs.DayByDay.{length-powers}
+use Rattle.series_totals.proofs.DayByDay.{TotalsLeft, none-summed, all-summed, count-fits, total-fits, day-added}
 use Rattle.text.specs.Inside.{Put}
 use Rattle.text.proofs.Puts.{put-length, put-put}
 use Rattle.program_lines.specs.Lines.{dayLine}
@@ -46,30 +45,25 @@ module _ (b : Basis) (yearly : ℕ) where
 
 -- the lines of the days left are still to come
 pub record LinesLeft (b : Basis) (yearly carry days : ℕ) (first : Date) (entry : List ℕ) (day : CalendarDay) (left : ℕ) (soFar : Lines) (page : List ℕ) : Type 0 where
-  -- the figures as series' law has them stored; no page holds them
-  pub out : List ℕ
-  pub totals : DaysLeft b yearly (powersFrom b days first) carry (powersFrom b days first) day left (soFar .totals) out
+  pub totals : TotalsLeft b yearly carry days first day left (soFar .totals)
   pub text : List ℕ
   pub put : Put text entry 0 (soFar .at) page
   pub linesLeft : text ++ linesFrom b yearly left (day .date) (soFar .totals .carry) ≡ linesFrom b yearly days first carry
   pub short : soFar .at + 39 * left ≤ 39 * days
   pub room : 39 * days ≤ length entry
-  pub few : length (powersFrom b days first) ≤ 146_100
 
 pub begin : (b : Basis) (sound : GroupValues (b .values)) {yearly carry days : ℕ} {day : CalendarDay} {entry : List ℕ} →
     RealDays day days → InRange yearly carry → 57_000 ≤ length entry →
     LinesLeft b yearly carry days (day .date) entry day days (record { at = 0; totals = record { count = 0; total = 0; carry = carry } }) entry
-begin b sound {yearly} {carry} {days} {day} real range room =
+begin b sound real range room =
     let few = real .few in
     record {
-      out = powersFrom b days (day .date);
-      totals = record { real = real; todo = start (range .carrySmall) (omega arith) (whole-fits b sound range real) };
+      totals = none-summed b sound real range;
       text = [];
       put = record { page = refl; behind = refl };
       linesLeft = refl;
       short = omega arith;
       room = omega arith;
-      few = omega (arith, length-powers b days (day .date), length-quarters b days (day .date) (sound .whole), values-small days (day .date));
     }
 
 module _ {b : Basis} {yearly carry days : ℕ} {first : Date} {entry : List ℕ} {day : CalendarDay} {left : ℕ} {soFar : Lines} {page : List ℕ}
@@ -85,7 +79,7 @@ module _ {b : Basis} {yearly carry days : ℕ} {first : Date} {entry : List ℕ}
       sym (append-nil (l .text)) ∙ (rw (lines-none b yearly left (day .date) (soFar .totals .carry) none) at (l .linesLeft)) in
       record {
         lines = rw all at (l .put);
-        totals = rw (length-powers b days first) at (all-done (l .totals) none .totals);
+        totals = rw (length-powers b days first) at (all-summed (l .totals) none);
         short = omega (arith, l .short);
       }
 
@@ -95,8 +89,8 @@ module _ {b : Basis} {yearly carry days : ℕ} {first : Date} {entry : List ℕ}
         let kept = page-length in
         record {
           line = omega (arith, l .short, l .room);
-          count = omega (arith, l .totals .todo .countLeft, l .few);
-          total = day-room (l .totals) some .total;
+          count = omega (arith, count-fits (l .totals) some);
+          total = total-fits (l .totals) some;
         }
 
     pub turn : {r : Lines} {after : List ℕ} {next : CalendarDay} → DayListed b yearly (day .date) soFar page r after →
@@ -108,12 +102,10 @@ module _ {b : Basis} {yearly carry days : ℕ} {first : Date} {entry : List ℕ}
         let line = did .line .behind in
         let step = did .short in
         record {
-          out = _;
-          totals = day-turn (l .totals) some (record { stored = refl; count = did .count; total = did .total; carry = did .carry }) e;
+          totals = day-added (l .totals) some (did .count) (did .total) (did .carry) e;
           text = _;
           put = put-put (l .put) (did .line) (omega arith);
           linesLeft = rw (e, did .carry) (append-assoc (l .text) _ _ ∙ (rw (lines-next b yearly left (day .date) (soFar .totals .carry) some) at (l .linesLeft)));
           short = omega arith;
           room = room;
-          few = l .few;
         }

@@ -5,12 +5,10 @@ use Prim.Native.Nat.{ℕ, zero, suc, _+_, _*_, _≤_, _<_}
 use native.Mathlib.Omega.{arith}
 use lib.ListN.{length, length-append, length-map}
 use Rattle.calendar_dates.specs.declared.Date.{Date}
-use Rattle.calendar_dates.specs.Dates.{nextDay}
 use Rattle.calendar_days.specs.declared.DayKind.{DayKind}
 use Rattle.calendar_days.specs.Days.{clock}
 use Rattle.calendar_period.proofs.Period.{clock-small}
 use Rattle.carry.specs.declared.Totals.{Totals}
-use Rattle.carry.specs.Carry.{lastCarry}
 use Rattle.carry.specs.Energy.{powers}
 use Rattle.carry.proofs.Carry.{length-figures}
 use Rattle.day_powers.specs.DayQuarters.{Basis, dayQuarters}
@@ -34,11 +32,10 @@ last-line-short days t =
 pub length-rows : (b : Basis) (yearly n : ℕ) (d : Date) (carry : ℕ) → length (rows b yearly n d carry) ≡ n
 unfolding rows
 length-rows b yearly zero d carry = refl
-length-rows b yearly (suc n) d carry =
-    ap suc (length-rows b yearly n (nextDay d) (lastCarry yearly (powers (dayQuarters b d)) carry))
+length-rows b yearly (suc n) d carry = ap suc (length-rows b yearly n _ _)
 
 -- the figures of one day are at most 100
-few : (b : Basis) (yearly : ℕ) (d : Date) (carry : ℕ) → length (b .values) ≡ 864 →
+pub few : (b : Basis) (yearly : ℕ) (d : Date) (carry : ℕ) → length (b .values) ≡ 864 →
     length (dayFigures b yearly d carry) ≤ 100
 few b yearly d carry h =
     let day = dayQuarters b d in
@@ -55,8 +52,7 @@ pub lines-short : (b : Basis) (yearly n : ℕ) (d : Date) (carry : ℕ) → leng
 unfolding rows dayLines
 lines-short b yearly zero d carry h = omega arith
 lines-short b yearly (suc n) d carry h =
-    let next = lastCarry yearly (powers (dayQuarters b d)) carry in
     let count : length (dayFigures b yearly d carry) < 1_000 = omega (arith, few b yearly d carry h) in
     let all : length (dayLines (b .holidays) (rows b yearly (suc n) d carry)) ≤ 39 + 39 * n =
-    line-and-rest _ (dayRow b yearly d carry) _ count (lines-short b yearly n (nextDay d) next h) in
+    line-and-rest _ (dayRow b yearly d carry) _ count (lines-short b yearly n _ _ h) in
     omega (arith, all)

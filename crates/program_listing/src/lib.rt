@@ -37,18 +37,15 @@ fn list_day(
         DayListed (basis (now (values .entry)) group (now (holidays .entry))) yearly (day .date)
         before (now (page .entry)) r (now (page .exit)) ⌝ }
 {
-    let clock = calendar_days::clock_of(day.date, day.weekday);
-    let values_today = calendar_days::value_count_under(clock) as usize;
-    let count = before.totals.count + values_today;
-    let kind = series::kind_on(day, holidays, place);
-    let powers = series::powers_on(values, group, day, kind);
-    let today = carry_total::total_day(powers, clock, yearly, before.totals.carry);
-    let total = before.totals.total + today.total;
+    let carry = before.totals.carry;
+    let today = series_totals::total_day(values, group, day, holidays, place, yearly, carry);
+    let count = before.totals.count + today.totals.count;
+    let total = before.totals.total + today.totals.total;
     let at = program_lines::put_day_line(
         day.date,
-        kind,
-        values_today,
-        today.total,
+        today.kind,
+        today.totals.count,
+        today.totals.total,
         page,
         before.at,
     );
@@ -57,7 +54,7 @@ fn list_day(
         totals: Totals {
             count,
             total,
-            carry: today.carry,
+            carry: today.totals.carry,
         },
     }
 }

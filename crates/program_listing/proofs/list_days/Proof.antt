@@ -7,6 +7,7 @@ use Rattle.calendar_holidays.specs.Inside.{Passed}
 use Rattle.calendar_holidays.proofs.Holidays.{from-start, on-later-day}
 use Rattle.day_powers.specs.DayQuarters.{basis}
 use Rattle.series.proofs.DayByDay.{this-day}
+use Rattle.series_totals.proofs.DayByDay.{day-asked}
 use Rattle.program_listing.proofs.LineByLine.{LinesLeft, begin, page-length, end, line-room, turn}
 use Rattle.program_listing.proofs.list_days.Statement.{statement}
 use Rattle.program_listing.proofs.list_days.Tie as tie
@@ -28,7 +29,7 @@ loop-holds c =
     )
 
 number-of-requires : tie.Need-number-of-requires Inv-loop μ-loop
-number-of-requires c κs = this-day (c .before .loop .inv .0 .totals) (omega arith) .real
+number-of-requires c κs = this-day (c .before .loop .inv .0 .totals .daysLeft) (omega arith) .real
 
 next-entry-requires : tie.Need-next-entry-requires Inv-loop μ-loop
 next-entry-requires c κs = rw (c .number-of .ensures) (c .before .before .loop .inv .1)
@@ -37,20 +38,13 @@ list-day-requires : tie.Need-list-day-requires Inv-loop μ-loop
 list-day-requires c κs =
     let l = c .before .before .before .before .loop .inv .0 in
     let pre = c .before .before .before .before .before .before .before .before .pre in
-    let reached = rw (c .before .before .number-of .ensures) at (c .before .next-entry .ensures) in (
-      pre .0,
-      (
-        this-day (l .totals) (omega arith),
-        (
-          record { inOrder = pre .1 .1 .0; reached = reached },
-          (record { yearlySmall = pre .1 .1 .1 .0 .yearlySmall; carrySmall = l .totals .todo .carrySmall }, line-room l (omega arith)),
-        ),
-      ),
-    )
+    let reached = rw (c .before .before .number-of .ensures) at (c .before .next-entry .ensures) in
+    let (real, (place, range)) = day-asked (l .totals) (omega arith) (pre .1 .1 .0) (pre .1 .1 .1 .0) reached in
+    (pre .0, (real, (place, (range, line-room l (omega arith)))))
 
 day-after-requires : tie.Need-day-after-requires Inv-loop μ-loop
 day-after-requires c κs =
-    let real = this-day (c .before .before .before .before .before .before .before .loop .inv .0 .totals) (omega arith) in
+    let real = this-day (c .before .before .before .before .before .before .before .loop .inv .0 .totals .daysLeft) (omega arith) in
     (real .real, real .known)
 
 sub-left : tie.Need-sub-left Inv-loop μ-loop
@@ -64,7 +58,7 @@ loop-again c =
     let called = c .before .before .before in
     let found = called .before .before in
     let l = found .before .before .before .loop in
-    let real = this-day (l .inv .0 .totals) (omega arith) .real in
+    let real = this-day (l .inv .0 .totals .daysLeft) (omega arith) .real in
     let reached = rw (found .before .number-of .ensures) at (found .next-entry .ensures) in (
       turn (l .inv .0) (omega arith) (called .list-day .ensures) (c .day-after .ensures),
       rw (c .day-after .ensures) (on-later-day (next-day-counts (l .day .date) real .later) reached),
