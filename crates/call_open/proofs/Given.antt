@@ -30,7 +30,7 @@ use Rattle.call_open.specs.declared.Opening.{Opening}
 use Rattle.call_open.specs.Inside.{opening, openedBy}
 
 -- what an answer tells of the questions asked, and the other way round
-opened-request : (v : Verdict) {o given : Opening} → Opened.Open o ≡ openedBy v given → (v ≡ Pass) × (o ≡ given)
+pub opened-request : (v : Verdict) {o given : Opening} → Opened.Open o ≡ openedBy v given → (v ≡ Pass) × (o ≡ given)
 opened-request Pass h = (refl, cc)
 opened-request (Verdict.Refused r) h = let z : _≡_ {A = ℕ} 0 1 = cc in absurd (omega arith)
 

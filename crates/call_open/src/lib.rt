@@ -1,4 +1,4 @@
-// The opening of a request, for expanding and the program (document 01): questions 1 to 11, the group found, the days counted.
+// The opening of a request (document 01): questions 1 to 8, and 1 to 11, the group found, the days counted.
 use calendar_period::CalendarDay;
 use calendar_period::Counted;
 use file_group::Found;
@@ -6,8 +6,10 @@ use refusal::Refusal;
 use refusal::Verdict;
 ghost use mathlib.Core.Path.{_≡_};
 ghost use mathlib.Core.List.{[]};
-ghost use Rattle.call_request.specs.Request.{request, requestCheck};
-ghost use Rattle.call_open.specs.Inside.{opening, openedBy};
+ghost use Rattle.refusal.specs.Questions.{_then_};
+ghost use Rattle.calendar_period.specs.Period.{periodCheck};
+ghost use Rattle.call_request.specs.Request.{request, aheadOfPeriod, requestCheck};
+ghost use Rattle.call_open.specs.Inside.{openingOf, opening, openedBy};
 
 // What the questions found: where the group's code stands in the file, the first day and the number of days.
 pub struct Opening {
@@ -20,6 +22,28 @@ pub struct Opening {
 pub enum Opened {
     Open(Opening),
     Refused(Refusal),
+}
+
+// Questions 1 to 8: the file, the group and the period.
+pub fn open_period(file: &[u8], group: u8, first: u32, last: u32) -> Opened
+    ensures { λ r. ⌜ r ≡ openedBy
+        (aheadOfPeriod (now (file .entry)) group then periodCheck first last)
+        (openingOf (now (file .entry)) group first last) ⌝ }
+{
+    let at = match file_group::find_checked(file, group) {
+        Found::At(at) => at,
+        Found::Refused(refusal) => return Opened::Refused(refusal),
+    };
+    let period = match calendar_period::count_days(first, last) {
+        Counted::Days(period) => period,
+        Counted::Refused(refusal) => return Opened::Refused(refusal),
+    };
+    let first = period.first;
+    Opened::Open(Opening {
+        at,
+        first,
+        days: period.days,
+    })
 }
 
 // Questions 1 to 11: all that is asked of a request but the length of its output.
@@ -36,21 +60,12 @@ pub fn open(
         (requestCheck (request (now (file .entry)) group first last (now (holidays .entry)) yearly carry []))
         (opening (request (now (file .entry)) group first last (now (holidays .entry)) yearly carry [])) ⌝ }
 {
-    let at = match file_group::find_checked(file, group) {
-        Found::At(at) => at,
-        Found::Refused(refusal) => return Opened::Refused(refusal),
-    };
-    let period = match calendar_period::count_days(first, last) {
-        Counted::Days(period) => period,
-        Counted::Refused(refusal) => return Opened::Refused(refusal),
+    let opening = match open_period(file, group, first, last) {
+        Opened::Open(opening) => opening,
+        Opened::Refused(refusal) => return Opened::Refused(refusal),
     };
     if let Verdict::Refused(refusal) = call_request::behind_period(holidays, yearly, carry) {
         return Opened::Refused(refusal);
     }
-    let first = period.first;
-    Opened::Open(Opening {
-        at,
-        first,
-        days: period.days,
-    })
+    Opened::Open(opening)
 }

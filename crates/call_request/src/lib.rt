@@ -9,7 +9,7 @@ ghost use Rattle.calendar_period.specs.Inside.{RealDays};
 ghost use Rattle.call_request.specs.Request.{useQuestion, carryQuestion, behindPeriod};
 
 // Question 10.
-fn use_question(yearly: u32) -> Verdict
+pub fn use_question(yearly: u32) -> Verdict
     ensures { λ r. ⌜ r ≡ useQuestion yearly ⌝ }
 {
     if carry::LARGEST_USE < yearly {

@@ -20,6 +20,7 @@ ghost use Rattle.call_holidays.specs.Holidays.{holidaysAnswer, listAfter, repor
 ghost use Rattle.call_day.specs.Enquiry.{dayEnquiry, reported as reportedDay};
 ghost use Rattle.call_request.specs.Request.{request};
 ghost use Rattle.call_expand.specs.Expanding.{Reports};
+ghost use Rattle.call_deliveries.specs.Deliveries.{deliveries, Reports as DeliveriesReports};
 ghost use Rattle.program_response.specs.Responding.{responseTo, pageAfter, reported as reportedResponse};
 
 // Questions 1 to 6.
@@ -104,6 +105,36 @@ pub extern "C" fn slp_expand(
         holidays,
         yearly,
         carry,
+        out,
+    ))
+}
+
+// Over and under deliveries.
+#[no_mangle]
+pub extern "C" fn slp_deliveries(
+    file: &[u8],
+    group: u8,
+    first: u32,
+    last: u32,
+    starts: &[u32],
+    metered: &[u32],
+    holidays: &[u32],
+    yearly: u32,
+    out: &mut [i64],
+) -> CheckReport
+    ensures { λ r. ⌜ DeliveriesReports
+        (deliveries (now (file .entry)) group first last (now (starts .entry)) (now (metered .entry)) (now (holidays .entry)) yearly (now (out .entry)))
+        r (now (out .exit)) ⌝ }
+{
+    refusal::report(call_deliveries::differences(
+        file,
+        group,
+        first,
+        last,
+        starts,
+        metered,
+        holidays,
+        yearly,
         out,
     ))
 }

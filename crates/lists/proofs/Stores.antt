@@ -32,16 +32,16 @@ module _ {A : Type 0} where
       rw (set-comm memory there at x y (λ e. omega arith)) (set-behind list (set memory at y) (suc at) there x (omega arith))
 
 -- A loop stores a list by turns: the stores of what is left, from `at` on, come to those of the whole.
-pub record Storing (before : List ℕ) (from : ℕ) (whole memory : List ℕ) (at : ℕ) (left : List ℕ) : Type 0 where
+pub record Storing {A : Type 0} (before : List A) (from : ℕ) (whole memory : List A) (at : ℕ) (left : List A) : Type 0 where
   pub comes : sets memory at left ≡ sets before from whole
   pub kept : length memory ≡ length before
 
-pub nothing-stored : {before whole : List ℕ} {from : ℕ} → Storing before from whole before from whole
+pub nothing-stored : {A : Type 0} {before whole : List A} {from : ℕ} → Storing before from whole before from whole
 nothing-stored = record { comes = refl; kept = refl }
 
-module _ {before whole memory left : List ℕ} {from at : ℕ} (loop : Storing before from whole memory at left) where
+module _ {A : Type 0} {before whole memory left : List A} {from at : ℕ} (loop : Storing before from whole memory at left) where
   -- the first of what is left
-  pub some-stored : (some : List ℕ) {rest after : List ℕ} {there : ℕ} → left ≡ some ++ rest → after ≡ sets memory at some → there ≡ at + length some →
+  pub some-stored : (some : List A) {rest after : List A} {there : ℕ} → left ≡ some ++ rest → after ≡ sets memory at some → there ≡ at + length some →
       Storing before from whole after there rest
   some-stored some {rest} e s n =
       record {
@@ -49,11 +49,11 @@ module _ {before whole memory left : List ℕ} {from at : ℕ} (loop : Storing b
         kept = ap length s ∙ length-sets memory at some ∙ loop .kept;
       }
 
-  pub one-stored : {x : ℕ} {rest : List ℕ} {there : ℕ} → left ≡ x ∷ rest → there ≡ at + 1 → Storing before from whole (set memory at x) there rest
+  pub one-stored : {x : A} {rest : List A} {there : ℕ} → left ≡ x ∷ rest → there ≡ at + 1 → Storing before from whole (set memory at x) there rest
   one-stored {x} e n = some-stored (x ∷ []) e refl n
 
   -- the last of what is left
-  pub last-stored : (x : ℕ) {rest : List ℕ} {there : ℕ} → left ≡ rest ++ (x ∷ []) → there ≡ at + length rest →
+  pub last-stored : (x : A) {rest : List A} {there : ℕ} → left ≡ rest ++ (x ∷ []) → there ≡ at + length rest →
       Storing before from whole (set memory there x) at rest
   last-stored x {rest} {there} e n =
       record {

@@ -13,7 +13,7 @@ use Rattle.refusal.specs.declared.Verdict.the-variants.{Pass, Refused}
 use Rattle.refusal.specs.declared.Refusal.{Refusal}
 use Rattle.refusal.specs.declared.Refusal.the-variants.{NoMark, WrongVersion, WrongLength, BadCode, BadValue, NoGroup, BadDate}
 use Rattle.refusal.specs.declared.Refusal.the-variants.{BadPeriod, BadHoliday, BadUse, BadCarry, ShortOutput, BadInput}
-use Rattle.refusal.specs.declared.Refusal.the-variants.{BadYear, BadChoice, ShortList}
+use Rattle.refusal.specs.declared.Refusal.the-variants.{BadYear, BadChoice, ShortList, WrongReadings, BadFirstDate}
 use Rattle.refusal.specs.Questions.{refusalNumber, reported, ask, _then_, askEach, roomQuestion, onPass}
 use Rattle.refusal.proofs.Verdict.{enum}
 
@@ -86,6 +86,12 @@ pub refused-second : (a b next : Verdict) {r : Refusal} → (a then b) ≡ Refus
 unfolding _then_
 refused-second Pass b next h = refused-first next h
 refused-second (Refused r) b next h = h
+
+-- after the first two passed the next counts
+pub passed-second : (a b next : Verdict) → (a then b) ≡ Pass → (a then b then next) ≡ next
+unfolding _then_
+passed-second Pass b next h = then-pass next h
+passed-second (Refused r) b next h = cc
 
 -- Question 12.
 module _ (needed room : ℕ) where
@@ -193,3 +199,5 @@ number-above-0 BadInput = refl
 number-above-0 BadYear = refl
 number-above-0 BadChoice = refl
 number-above-0 (ShortList needed) = refl
+number-above-0 WrongReadings = refl
+number-above-0 (BadFirstDate index) = refl

@@ -8,7 +8,7 @@ use lib.ListN.{length, drop}
 use Rattle.refusal.specs.declared.Refusal.{Refusal}
 use Rattle.refusal.specs.declared.Refusal.the-variants.{NoMark, WrongVersion, WrongLength, BadCode, BadValue, NoGroup, BadDate}
 use Rattle.refusal.specs.declared.Refusal.the-variants.{BadPeriod, BadHoliday, BadUse, BadCarry, ShortOutput, BadInput}
-use Rattle.refusal.specs.declared.Refusal.the-variants.{BadYear, BadChoice, ShortList}
+use Rattle.refusal.specs.declared.Refusal.the-variants.{BadYear, BadChoice, ShortList, WrongReadings, BadFirstDate}
 use Rattle.refusal.specs.declared.CheckReport.{CheckReport}
 use Rattle.refusal.specs.declared.Verdict.{Verdict}
 use Rattle.refusal.specs.declared.Verdict.the-variants.{Pass, Refused}
@@ -32,6 +32,8 @@ refusalNumber BadInput = 13
 refusalNumber BadYear = 14
 refusalNumber BadChoice = 15
 refusalNumber (ShortList needed) = 16
+refusalNumber WrongReadings = 17
+refusalNumber (BadFirstDate index) = 18
 
 -- "Place is 0 where none is named."
 abbrev pub refusalPlace : Refusal → ℕ
@@ -51,6 +53,8 @@ refusalPlace BadInput = 0
 refusalPlace BadYear = 0
 refusalPlace BadChoice = 0
 refusalPlace (ShortList needed) = needed
+refusalPlace WrongReadings = 0
+refusalPlace (BadFirstDate index) = index
 
 -- "number and place, both 0 when all pass"
 abbrev pub number : Verdict → ℕ
@@ -91,5 +95,5 @@ onPass (Refused r) a b = b
 
 -- lent memory after a call: "An accepted call fills the entries it needs from the start of the lent output and keeps those
 -- beyond"; on a refusal "lent memory keeps its content"
-abbrev pub lentAfter : Verdict → List ℕ → List ℕ → List ℕ
+abbrev pub lentAfter : {A : Type 0} → Verdict → List A → List A → List A
 lentAfter verdict new old = onPass verdict (new ++ drop (length new) old) old

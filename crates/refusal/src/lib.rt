@@ -20,6 +20,8 @@ pub enum Refusal {
     BadYear,
     BadChoice,
     ShortList(usize),
+    WrongReadings,
+    BadFirstDate(usize),
 }
 
 // Every question asked passed, or the first one that did not.
@@ -56,6 +58,8 @@ pub fn number_of(r: Refusal) -> u32
         Refusal::BadYear => 14,
         Refusal::BadChoice => 15,
         Refusal::ShortList(_) => 16,
+        Refusal::WrongReadings => 17,
+        Refusal::BadFirstDate(_) => 18,
     }
 }
 
@@ -80,6 +84,8 @@ pub fn place_of(r: Refusal) -> usize
         Refusal::BadYear => 0,
         Refusal::BadChoice => 0,
         Refusal::ShortList(needed) => needed,
+        Refusal::WrongReadings => 0,
+        Refusal::BadFirstDate(index) => index,
     }
 }
 

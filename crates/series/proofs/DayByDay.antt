@@ -139,15 +139,20 @@ module _ (b : Basis) (sound : GroupValues (b .values)) where
       (each-append _ (dayPowers b d) (powersFrom b n (nextDay d))
       (day-small d (all-first (suc n) d h (omega arith))) (all-small n (nextDay d) (rw one at (all-next (suc n) d h))))
 
-  pub whole-fits : {yearly carry : ℕ} {first : CalendarDay} {days : ℕ} → InRange yearly carry → RealDays first days →
-      sum (figures yearly (powersFrom b days (first .date)) carry) < 2 ^ 64
-  whole-fits {yearly} {carry} {first} {days} range real =
+  -- the total fits an i64, and so 64 bits
+  pub whole-small : {yearly carry : ℕ} {first : CalendarDay} {days : ℕ} → InRange yearly carry → RealDays first days →
+      sum (figures yearly (powersFrom b days (first .date)) carry) < 2 ^ 63
+  whole-small {yearly} {carry} {first} {days} range real =
       let all = powersFrom b days (first .date) in
       let few = real .few in
       let many = length-quarters b days (first .date) (sound .whole) in
       let count : length all ≤ 146_100 = omega (arith, length-powers b days (first .date), values-small days (first .date)) in
       let limit : sum all ≤ 40_000 * 146_100 = omega (arith, sum-small all (all-small days (first .date) (real .all))) in
       omega (arith, telescope yearly carry all, mul-le-mul (range .yearlySmall) limit, range .carrySmall)
+
+  pub whole-fits : {yearly carry : ℕ} {first : CalendarDay} {days : ℕ} → InRange yearly carry → RealDays first days →
+      sum (figures yearly (powersFrom b days (first .date)) carry) < 2 ^ 64
+  whole-fits range real = omega (arith, whole-small range real)
 
 -- the loop over the days: those left, from `day` on, are real, and their powers are still to come
 pub record DaysLeft (b : Basis) (yearly : ℕ) (whole : List ℕ) (carry : ℕ) (entry : List ℕ) (day : CalendarDay) (left : ℕ) (soFar : Totals) (out : List ℕ) : Type 0 where

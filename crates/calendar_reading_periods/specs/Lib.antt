@@ -1,0 +1,2 @@
+pub mod ReadingPeriods
+pub mod Inside

@@ -1,0 +1,46 @@
+-- `refusal::number_of` meets its contract: in each arm the refusal is known, and its number computes. First what each arm is told, then what
+-- it answers. Assumes nothing.
+use borrow.Author.Needs.{needs}
+use Rattle.refusal.proofs.number_of.Statement.{statement}
+use Rattle.refusal.proofs.number_of.Tie as tie
+
+pub number-of-spec : {M : Type 1} → statement M
+number-of-spec =
+    tie.close
+    (tie.spec
+    (λ c. search needs)
+    (λ c. search needs)
+    (λ c. search needs)
+    (λ c. search needs)
+    (λ c. search needs)
+    (λ c. search needs)
+    (λ c. search needs)
+    (λ c. search needs)
+    (λ c. search needs)
+    (λ c. search needs)
+    (λ c. search needs)
+    (λ c. search needs)
+    (λ c. search needs)
+    (λ c. search needs)
+    (λ c. search needs)
+    (λ c. search needs)
+    (λ c. search needs)
+    (λ c. search needs)
+    (λ c. rw (c .enum-told .given .1))
+    (λ c. rw (c .enum-told2 .given .1))
+    (λ c. rw (c .enum-told3 .given .1))
+    (λ c. rw (c .enum-told4 .given .1))
+    (λ c. rw (c .enum-told5 .given .1))
+    (λ c. rw (c .enum-told6 .given .1))
+    (λ c. rw (c .enum-told7 .given .1))
+    (λ c. rw (c .enum-told8 .given .1))
+    (λ c. rw (c .enum-told9 .given .1))
+    (λ c. rw (c .enum-told10 .given .1))
+    (λ c. rw (c .enum-told11 .given .1))
+    (λ c. rw (c .enum-told12 .given .1))
+    (λ c. rw (c .enum-told13 .given .1))
+    (λ c. rw (c .enum-told14 .given .1))
+    (λ c. rw (c .enum-told15 .given .1))
+    (λ c. rw (c .enum-told16 .given .1))
+    (λ c. rw (c .enum-told17 .given .1))
+    (λ c. rw (c .enum-told18 .given .1)))
