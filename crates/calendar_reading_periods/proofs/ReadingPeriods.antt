@@ -132,10 +132,9 @@ module _ (start next : ℕ) (p : isDate (dateOf start) ≡ true) (q : isDate (da
   unfolding DatesCounted
   last-date = dates-counted .0 (daysLater more (dateOf start)) last-day .numbered
 
-  -- the next period begins the day after
-  pub adjacent : nextDay (dateOf (numberOf (daysLater more (dateOf start)))) ≡ dateOf next
+  day-after : nextDay (dateOf (numberOf (daysLater more (dateOf start)))) ≡ dateOf next
   unfolding daysOf daysLater
-  adjacent =
+  day-after =
       let all : suc more ≡ dayNumber (dateOf next) + 1 - dayNumber (dateOf start) - 1 = omega arith in
       ap nextDay last-date ∙ sym (later-next more (dateOf start)) ∙ ap (λ (k : ℕ). daysLater k (dateOf start)) all
       ∙ period-days (dateOf start) (dateOf next) p q (omega arith) .ends
@@ -156,6 +155,11 @@ ends last start (next ∷ rest) q f =
       before = rw date (omega arith);
       inside = omega (arith, day-not-after next last r q (f .3 .1));
     }
+
+-- the next period begins the day after
+pub next-begins : (last start next : ℕ) (rest : List ℕ) → FirstDates last (start ∷ next ∷ rest) → nextDay (dateOf (endOf last start (next ∷ rest))) ≡ dateOf next
+unfolding endOf
+next-begins last start next rest f = day-after start next (f .0) (f .3 .0) (day-before start next (f .0) (f .3 .0) (f .2))
 
 -- The period at an index.
 module _ {last : ℕ} {starts : List ℕ} {index : ℕ} (f : PeriodsFrom last starts index) where

@@ -54,16 +54,22 @@ module _ (d : Deliveries) where
   abbrev behind : Verdict
   behind = behindSpan (d .first) (d .last) (d .starts) (length (d .metered)) (d .holidays) (d .yearly) (length (d .output))
 
-  pub sound : span ≡ Pass → behind ≡ Pass → Sound d
-  unfolding useQuestion
-  sound s b =
-      let to-18 = then-next (readingsQuestion (length (d .starts)) (length (d .metered))) _ b in
+  pub all-passed : span ≡ Pass → behind ≡ Pass → deliveriesCheck d ≡ Pass
+  unfolding deliveriesCheck
+  all-passed s b = passed-second _ _ _ s ∙ b
+
+  pub sound : deliveriesCheck d ≡ Pass → Sound d
+  unfolding deliveriesCheck useQuestion
+  sound h =
+      let to-8 = then-next (aheadOfPeriod (d .file) (d .group)) _ h in
+      let to-17 = then-next (periodCheck (d .first) (d .last)) _ to-8 in
+      let to-18 = then-next (readingsQuestion (length (d .starts)) (length (d .metered))) _ to-17 in
       let to-9 = then-next (firstDatesQuestion (d .first) (d .last) (d .starts)) _ to-18 in
       let to-10 = then-next (holidaysQuestion (d .holidays)) _ to-9 in
       record {
-        ahead = then-first _ _ s;
-        period = period-passed (d .first) (d .last) (then-next (aheadOfPeriod (d .file) (d .group)) _ s);
-        counted = counted _ _ (then-first _ _ b);
+        ahead = then-first _ _ h;
+        period = period-passed (d .first) (d .last) (then-first _ _ to-8);
+        counted = counted _ _ (then-first _ _ to-17);
         dates = then-first _ _ to-18;
         holidays = then-first _ _ to-9;
         yearly = leb-true (d .yearly) largestUse (ask-passed _ BadUse (then-first _ _ to-10));
@@ -93,6 +99,12 @@ module _ (d : Deliveries) where
       (passes (wholeSpan d) (record { file = s .ahead; period = s .period; holidays = s .holidays; yearly = s .yearly; carry = omega arith }))
       e)
 
+  -- a difference for each period
+  pub one-per-period : length (d .metered) ≡ length (d .starts) → length (differences d) ≡ length (d .starts)
+  one-per-period same =
+      sym (ap length (same-differences (wholeSpan d) (d .metered) (readingPeriods (d .last) (d .starts)) 0))
+      ∙ length-differences (basisOf (wholeSpan d)) (d .yearly) (d .metered) (d .last) (d .starts) 0 same
+
   -- refused by the file, the group or the span
   pub span-refused : {r : Refusal} → span ≡ Refused r → Delivers d (Refused r) (d .output)
   unfolding deliveriesCheck outputAfter
@@ -111,10 +123,8 @@ module _ (d : Deliveries) where
   pub delivered : {after : List ℤ} → span ≡ Pass → behind ≡ Pass →
       after ≡ differencesFrom (basisOf (wholeSpan d)) (d .yearly) (d .metered) (readingPeriods (d .last) (d .starts)) 0 ++ drop (length (d .starts)) (d .output) →
       Delivers d Pass after
-  unfolding deliveriesCheck outputAfter
+  unfolding outputAfter
   delivered {after} s b h =
-      let all : deliveriesCheck d ≡ Pass = passed-second _ _ _ s ∙ b in
+      let all = all-passed s b in
       let same = same-differences (wholeSpan d) (d .metered) (readingPeriods (d .last) (d .starts)) 0 in
-      let n : length (differences d) ≡ length (d .starts) =
-      sym (ap length same) ∙ length-differences (basisOf (wholeSpan d)) (d .yearly) (d .metered) (d .last) (d .starts) 0 (sound s b .counted .same) in
-      record { answers = sym all; reports = ap reported (sym all); leaves = rw (all, n) (rw same at h) }
+      record { answers = sym all; reports = ap reported (sym all); leaves = rw (all, one-per-period (sound all .counted .same)) (rw same at h) }

@@ -2,20 +2,16 @@
 use mathlib.Core.Path.{_≡_, refl, sym, _∙_, ap}
 use mathlib.Core.Bool.{Bool, true, false}
 use mathlib.Core.List.{List, [], _∷_, _++_, append-nil}
-use Prim.Native.Nat.{ℕ, suc, _+_, _-_, _≤_}
-use native.Mathlib.Omega.{arith}
+use Prim.Native.Nat.{ℕ, _≤_}
 use Rattle.lists.specs.Lists.{Each}
 use Rattle.calendar_dates.specs.declared.Date.{Date}
-use Rattle.calendar_dates.specs.Dates.{dateOf, isDate, dayNumber, nextDay, daysLater}
-use Rattle.calendar_dates.proofs.Later.{later-next}
-use Rattle.calendar_dates.proofs.NextDay.{next-day-counts}
+use Rattle.calendar_dates.specs.Dates.{dateOf, dayNumber, nextDay}
 use Rattle.calendar_period.specs.Period.{daysOf}
-use Rattle.calendar_laws.proofs.Periods.{period-days}
 use Rattle.file_group.specs.Group.{tableOf}
 use Rattle.carry.specs.Energy.{Quarter}
 use Rattle.day_powers.specs.DayQuarters.{Basis, basis, dayQuarters}
 use Rattle.series.specs.Series.{quartersOfDays}
-use Rattle.series.proofs.Series.{quarters-add}
+use Rattle.series_laws.proofs.Adjoining.{two-periods, in-order}
 use Rattle.call_request.specs.Request.{Request, daysIn, quarters}
 use Rattle.call_request.proofs.Request.{Sound}
 use Rattle.call_expand.proofs.Expanding.{request-sound}
@@ -33,27 +29,6 @@ quartersIn common n d = quartersOfDays (dayQuarters (basisIn common)) n d
 
 pub quarters-in : (q : Request) (common : Common) → commonOf q ≡ common → quarters q ≡ quartersIn common (daysIn q) (dateOf (q .first))
 quarters-in q common e = ap (λ (x : Common). quartersIn x (daysIn q) (dateOf (q .first))) e
-
--- the day after a period's last
-after-last : (first last : Date) → isDate first ≡ true → isDate last ≡ true → dayNumber first ≤ dayNumber last → daysLater (daysOf first last) first ≡ nextDay last
-unfolding daysLater daysOf
-after-last first last p q h =
-    let n = dayNumber last + 1 - dayNumber first in
-    let one : suc (n - 1) ≡ n = omega arith in
-    ap (λ (k : ℕ). daysLater k first) (sym one) ∙ later-next (n - 1) first ∙ ap nextDay (period-days first last p q h .ends)
-
--- a period, and one that begins on the day after and lasts to `end`
-module _ (common : Common) (first last end : Date) (p : isDate first ≡ true) (q : isDate last ≡ true) (h : dayNumber first ≤ dayNumber last) (k : dayNumber (nextDay last) ≤ dayNumber end) where
-  days-add : daysOf first end ≡ daysOf first last + daysOf (nextDay last) end
-  unfolding daysOf
-  days-add = omega (arith, next-day-counts last q .counts)
-
-  two-periods : quartersIn common (daysOf first last) first ++ quartersIn common (daysOf (nextDay last) end) (nextDay last) ≡ quartersIn common (daysOf first end) first
-  two-periods =
-      rw (days-add, quarters-add (dayQuarters (basisIn common)) (daysOf first last) (daysOf (nextDay last) end) first, after-last first last p q h)
-
-  in-order : dayNumber first ≤ dayNumber end
-  in-order = omega (arith, next-day-counts last q .counts)
 
 -- the quarter hours of accepted calls
 abbrev pub allQuarters : List Call → List Quarter
@@ -84,8 +59,8 @@ covers common carry c (next ∷ calls) e s =
     record {
       quartersAre =
           rw (quarters-in (c .given) common (s .0), quartersAre)
-          (two-periods common first last end (here .dates-first) (here .dates-last) (here .ordered) later);
-      ordered = in-order common first last end (here .dates-first) (here .dates-last) (here .ordered) later;
+          (two-periods (dayQuarters (basisIn common)) first last end (here .dates-first) (here .dates-last) (here .ordered) later);
+      ordered = in-order (dayQuarters (basisIn common)) first last end (here .dates-first) (here .dates-last) (here .ordered) later;
     }
 
 -- the calls of a list, with the accepted ones alone

@@ -12,7 +12,7 @@ use Rattle.call_open.specs.Inside.{opening}
 use Rattle.call_open.proofs.Given.{opened-request, opened-refused, OpenedFor, table-is, group-values}
 use Rattle.call_deliveries.specs.Deliveries.{Deliveries, deliveries, wholeSpan}
 use Rattle.call_deliveries.specs.Inside.{behindSpan}
-use Rattle.call_deliveries.proofs.Answers.{Sound, sound, readings, span-opened, span-refused, behind-refused, delivered}
+use Rattle.call_deliveries.proofs.Answers.{Sound, all-passed, sound, readings, span-opened, span-refused, behind-refused, delivered}
 use Rattle.call_deliveries.proofs.differences.Statement.{statement}
 use Rattle.call_deliveries.proofs.differences.Tie as tie
 
@@ -40,7 +40,7 @@ behind-passed : (c : tie.After-enum-told) → let d = asked (of-all c) in
 behind-passed c = sym (c .before .before .behind-span .ensures) ∙ c .enum-told .given .1
 
 all-sound : (c : tie.After-enum-told) → Sound (asked (of-all c))
-all-sound c = sound (asked (of-all c)) (span-passed (of-all c) .0) (behind-passed c)
+all-sound c = let d = asked (of-all c) in sound d (all-passed d (span-passed (of-all c) .0) (behind-passed c))
 
 opened : (c : tie.After-enum-told) → OpenedFor (wholeSpan (asked (of-all c))) (of-all c .before .opening .given .0 .0)
 opened c = span-opened (asked (of-all c)) (all-sound c) (span-passed (of-all c) .1)

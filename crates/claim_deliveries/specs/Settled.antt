@@ -1,0 +1,65 @@
+-- Document 02, (c): what is billed of an accepted call, by what expanding answers for its reading periods.
+use mathlib.Core.Path.{_≡_}
+use mathlib.Core.List.{List, [], _∷_, _++_, map}
+use Prim.Native.Nat.{ℕ, _-_, _*_, _≤_}
+use lib.IntN.{ℤ, pos, _+ℤ_, _-ℤ_, negℤ}
+use lib.ListN.{length}
+use Rattle.lists.specs.Lists.{sum}
+use Rattle.refusal.specs.declared.Verdict.the-variants.{Pass}
+use Rattle.calendar_dates.specs.declared.Date.{Date}
+use Rattle.calendar_dates.specs.Dates.{dateOf, nextDay}
+use Rattle.call_request.specs.Request.{Request, request, series}
+use Rattle.call_expansion.specs.declared.Expansion.the-variants.{Expanded}
+use Rattle.call_expand.specs.Expanding.{totals, expansion}
+use Rattle.call_deliveries.specs.Deliveries.{Deliveries, wholeSpan, balancedPeriods, difference, differences, deliveriesCheck}
+
+-- expanding, lent an output that is long enough, accepts a request and answers its totals
+abbrev pub lent : Request → List ℕ → Request
+lent r out = request (r .file) (r .group) (r .first) (r .last) (r .holidays) (r .yearly) (r .carry) out
+
+abbrev pub IsExpanded : Request → Type 0
+IsExpanded r = (out : List ℕ) → length (series r) ≤ length out → expansion (lent r out) ≡ Expanded (totals r)
+
+-- "adjacent": the first period begins on a date, each later one on the day after the one before ended, and the last one ends with the
+-- span
+unfoldable pub Adjacent : Date → ℕ → List Request → Type 0
+Adjacent begin last [] = begin ≡ nextDay (dateOf last)
+Adjacent begin last (r ∷ periods) = (dateOf (r .first) ≡ begin) × Adjacent (nextDay (dateOf (r .last))) last periods
+
+-- each period is expanded, the first one given a carry, each later one the carry that expanding answered for the one before
+unfoldable pub HandedOn : ℕ → List Request → Type 0
+HandedOn carry [] = Unit {0}
+HandedOn carry (r ∷ periods) = (r .carry ≡ carry) × IsExpanded r × HandedOn (totals r .carry) periods
+
+-- the periods' series, one after the other
+unfoldable pub joinedSeries : List Request → List ℕ
+joinedSeries [] = []
+joinedSeries (r ∷ periods) = series r ++ joinedSeries periods
+
+-- the sum of signed numbers
+unfoldable pub sumOf : List ℤ → ℤ
+sumOf [] = pos 0
+sumOf (z ∷ zs) = z +ℤ sumOf zs
+
+-- what is claimed of an accepted call
+pub record Settled (d : Deliveries) : Type 0 where
+  -- "for each period": one difference, and a period from each first date
+  pub onePerPeriod : length (differences d) ≡ length (d .starts)
+  pub firstDates : map (λ r. r .first) (balancedPeriods d) ≡ d .starts
+  pub adjacent : Adjacent (dateOf (d .first)) (d .last) (balancedPeriods d)
+  -- "The balanced energy is the series with the carry running through from 0.": the total of a period is what expanding answers for it
+  pub handedOn : HandedOn 0 (balancedPeriods d)
+  -- and together the periods' series are that of the whole span, which expanding answers too
+  pub seriesJoin : joinedSeries (balancedPeriods d) ≡ series (wholeSpan d)
+  pub wholeExpanded : IsExpanded (wholeSpan d)
+  -- "The differences add up to 1,000 times all metered kWh less the total of the whole span's series."
+  pub addUp : sumOf (differences d) ≡ pos (1_000 * sum (d .metered)) -ℤ pos (totals (wholeSpan d) .total)
+
+-- "The result is signed: positive when the customer drew more."
+pub record Signed (metered balanced : ℕ) : Type 0 where
+  pub drewMore : balanced ≤ 1_000 * metered → difference metered balanced ≡ pos (1_000 * metered - balanced)
+  pub drewLess : 1_000 * metered ≤ balanced → difference metered balanced ≡ negℤ (pos (balanced - 1_000 * metered))
+
+-- the theorem. Proved in proofs/Settled.antt.
+unfoldable pub DeliveriesSettled : Type 0
+DeliveriesSettled = ((d : Deliveries) → deliveriesCheck d ≡ Pass → Settled d) × ((metered balanced : ℕ) → Signed metered balanced)
