@@ -4,7 +4,7 @@
  * cc -I include main.c target/staticlib/libexports.a
  *
  * Every call takes any bytes, values and numbers, in any amount, ends, and either does its work (number 0) or is refused by the
- * first question of document 01 that is answered "no" (14 to 16 are document 02's): `number` is then that question's number, `place`
+ * first question of document 01 that is answered "no" (14 to 18 are document 02's): `number` is then that question's number, `place`
  * the place it names (0 where it names none), every other field is 0, and lent memory keeps its content. slp_locate alone gives no
  * number: it answers the part of length 0, and slp_check, which asks the same questions, gives number and place. Of its pointers a
  * call asks what is said below the table; no call can find that out by itself.
@@ -29,6 +29,11 @@
  *       14  the year is not one from 1996 to 2099                               0
  *       15  the choice of regional days is above 63                             0
  *       16  the list for the holidays is too short                              entries needed
+ *       17  the reading periods are not 1 to 48, or the metered values are      0
+ *           not as many
+ *       18  the first date of a reading period is no such date, outside the     index of the first such period
+ *           span, not later than the one before or, of the first period, not
+ *           the span's own
  *
  * All memory is the caller's: it is lent for the length of the call, nothing is allocated, kept or freed. A pointer points
  * at `.._length` entries (entries, not bytes) and is not NULL, also where the length is 0. What a call writes to overlaps
@@ -62,6 +67,9 @@ extern "C" {
 
 /* Enough entries for the holidays of every year. */
 #define SLP_MOST_HOLIDAYS 17
+
+/* The most reading periods of slp_deliveries. */
+#define SLP_MOST_PERIODS 48
 
 /* The regional holidays, for the choice of slp_holidays: SLP_EPIPHANY | SLP_ALL_SAINTS, say. */
 #define SLP_EPIPHANY 1
@@ -187,6 +195,20 @@ struct slp_response_report slp_respond(const uint8_t *input, size_t input_length
  * SLP_MOST_HOLIDAYS is always enough).
  */
 struct slp_holidays_report slp_holidays(uint32_t year, uint8_t choice, uint32_t *list, size_t list_length);
+
+/*
+ * Writes the over and under deliveries of a customer into the first entries of `out`, one for each reading period, and keeps those
+ * beyond: its metered energy minus its balanced energy in Wh, positive where the customer drew more. The span goes from `first` to
+ * `last`, both included, at most 1,461 days. `starts` has the first date of each period, 1 to SLP_MOST_PERIODS of them: the first is
+ * `first`, each is later than the one before. A period ends the day before the next one begins, the last with `last`. `metered` has
+ * the kWh of each period. The balanced energy is that of the series of slp_expand for the whole span, begun with carry 0, so that
+ * the differences add up to 1,000 times all metered kWh less that series' total. `holidays` is not NULL, also where the list is empty.
+ * Questions 1 to 8, 17, 18, 9, 10 and 12 (place: the periods), in this order.
+ */
+struct slp_check_report slp_deliveries(const uint8_t *file, size_t file_length, uint8_t group, uint32_t first, uint32_t last,
+                                       const uint32_t *starts, size_t starts_length, const uint32_t *metered,
+                                       size_t metered_length, const uint32_t *holidays, size_t holidays_length,
+                                       uint32_t yearly, int64_t *out, size_t out_length);
 
 #ifdef __cplusplus
 }

@@ -48,6 +48,9 @@ pub const PAGE_LENGTH: usize = 65_536;
 /// Enough entries for the holidays of every year: eleven of all of Germany and six regional ones.
 pub const MOST_HOLIDAYS: usize = 17;
 
+/// The most reading periods of one call for over and under deliveries.
+pub const MOST_PERIODS: usize = 48;
+
 /// The length in bytes of a profile file with `count` groups.
 ///
 /// ```
@@ -125,6 +128,44 @@ impl<'a> Request<'a> {
             holidays: self.holidays,
             yearly: self.yearly,
             carry: self.carry,
+        }
+    }
+}
+
+/// What the over and under deliveries of a customer are worked out from, beside the output.
+#[derive(Debug, Clone, Copy, PartialEq, Eq)]
+pub struct Deliveries<'a> {
+    /// A profile file.
+    pub file: &'a [u8],
+    /// One of its groups.
+    pub group: Group,
+    /// The first date of the whole span, yyyymmdd.
+    pub first: u32,
+    /// Its last date, included; at most 1,461 days in all.
+    pub last: u32,
+    /// The first date of each reading period, 1 to [`MOST_PERIODS`] of them: the first is the span's, each is later than the one
+    /// before. A period ends the day before the next one begins, the last with the span.
+    pub starts: &'a [u32],
+    /// The metered kWh of each period.
+    pub metered: &'a [u32],
+    /// Strictly rising dates, at most 400.
+    pub holidays: &'a [u32],
+    /// The yearly use in kWh by which the customer is balanced, at most 1,000,000,000.
+    pub yearly: u32,
+}
+
+impl<'a> Deliveries<'a> {
+    /// The same with the group's code, as [`report::deliveries`] takes it.
+    pub fn numbers(&self) -> report::Deliveries<'a> {
+        report::Deliveries {
+            file: self.file,
+            group: self.group.code(),
+            first: self.first,
+            last: self.last,
+            starts: self.starts,
+            metered: self.metered,
+            holidays: self.holidays,
+            yearly: self.yearly,
         }
     }
 }
@@ -346,4 +387,39 @@ pub fn holidays(year: u32, regional: &[RegionalDay], list: &mut [u32]) -> Result
     let report = report::holidays(year, RegionalDay::choice(regional), list);
     verdict(report.number, report.place)?;
     Ok(report.length)
+}
+
+/// Writes the over and under deliveries of a customer into the first entries of `out`, one for each reading period: its metered energy
+/// minus its balanced energy in Wh, positive where the customer drew more (equation 4.8 of source document 001). The balanced energy
+/// is that of the series of [`expand`] for the whole span, begun with carry 0, so that the differences add up to 1,000 times all metered
+/// kWh less that series' total. Questions 1 to 8, 17, 18, 9, 10 and 12, in this order. An output of [`MOST_PERIODS`] entries is always
+/// long enough.
+///
+/// Three days of a flat profile, which are balanced by 2,402, 2,402 and 2,303 Wh, with 2 kWh metered on each:
+///
+/// ```
+/// let mut file = [0; slp::file_length(1)];
+/// slp::write(&[slp::Group::G0], &[1001; slp::GROUP_VALUES], &mut file)?;
+/// let days = slp::Deliveries {
+///     file: &file,
+///     group: slp::Group::G0,
+///     first: 20000324,
+///     last: 20000326,
+///     starts: &[20000324, 20000325, 20000326],
+///     metered: &[2, 2, 2],
+///     holidays: &[],
+///     yearly: 1000,
+/// };
+/// let mut out = [0; 3];
+/// slp::deliveries(&days, &mut out)?;
+/// assert_eq!(out, [-402, -402, -303]);
+///
+/// let late = slp::Deliveries { starts: &[20000324, 20000325, 20000327], ..days };
+/// let refusal = slp::deliveries(&late, &mut out).unwrap_err();
+/// assert_eq!(refusal, slp::Refusal { kind: slp::RefusalKind::BadFirstDate, place: 2 });
+/// # Ok::<(), slp::Refusal>(())
+/// ```
+pub fn deliveries(given: &Deliveries, out: &mut [i64]) -> Result<(), Refusal> {
+    let report = report::deliveries(&given.numbers(), out);
+    verdict(report.number, report.place)
 }

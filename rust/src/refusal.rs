@@ -44,10 +44,15 @@ pub enum RefusalKind {
     BadChoice = 15,
     /// The list for the holidays is too short. The place is the number of entries needed.
     ShortList = 16,
+    /// The reading periods are not 1 to 48, or the metered values are not as many.
+    WrongReadings = 17,
+    /// The first date of a reading period is not real, outside the span, not later than the one before or, of the first period, not the
+    /// span's own. The place is its index.
+    BadFirstDate = 18,
 }
 
 impl RefusalKind {
-    /// All kinds, in the order of their numbers, which are 1 to 12 and 14 to 16.
+    /// All kinds, in the order of their numbers, which are 1 to 12 and 14 to 18.
     pub const ALL: &'static [RefusalKind] = &[
         RefusalKind::NoMark,
         RefusalKind::WrongVersion,
@@ -64,6 +69,8 @@ impl RefusalKind {
         RefusalKind::BadYear,
         RefusalKind::BadChoice,
         RefusalKind::ShortList,
+        RefusalKind::WrongReadings,
+        RefusalKind::BadFirstDate,
     ];
 
     /// The question's number.
@@ -101,6 +108,12 @@ impl RefusalKind {
             RefusalKind::BadYear => "the year is not one from 1996 to 2099",
             RefusalKind::BadChoice => "the choice of regional days is above 63",
             RefusalKind::ShortList => "the list for the holidays is too short",
+            RefusalKind::WrongReadings => {
+                "the reading periods are not 1 to 48, or the metered values are not as many"
+            }
+            RefusalKind::BadFirstDate => {
+                "the first date of a reading period is not real, outside the span, not later than the one before or not the span's own"
+            }
         }
     }
 }
@@ -132,13 +145,13 @@ mod tests {
     #[test]
     fn the_numbers_leave_out_13_and_each_has_words_of_its_own() {
         let kinds = || RefusalKind::ALL.iter().copied();
-        assert!(kinds().map(RefusalKind::number).eq((1..=12).chain(14..=16)));
+        assert!(kinds().map(RefusalKind::number).eq((1..=12).chain(14..=18)));
         let words: BTreeSet<_> = kinds().map(RefusalKind::meaning).collect();
         assert_eq!(words.len(), RefusalKind::ALL.len());
         for kind in kinds() {
             assert_eq!(RefusalKind::from_number(kind.number()), Some(kind));
         }
-        for number in [0, 13, 17] {
+        for number in [0, 13, 19] {
             assert_eq!(RefusalKind::from_number(number), None);
         }
     }

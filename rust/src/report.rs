@@ -114,6 +114,27 @@ pub struct Request<'a> {
     pub carry: u32,
 }
 
+/// What the over and under deliveries are worked out from.
+#[derive(Debug, Clone, Copy, PartialEq, Eq)]
+pub struct Deliveries<'a> {
+    /// A profile file.
+    pub file: &'a [u8],
+    /// The group's code.
+    pub group: u8,
+    /// The first date of the whole span, yyyymmdd.
+    pub first: u32,
+    /// Its last date, included.
+    pub last: u32,
+    /// The first date of each reading period.
+    pub starts: &'a [u32],
+    /// The metered kWh of each period.
+    pub metered: &'a [u32],
+    /// The holidays.
+    pub holidays: &'a [u32],
+    /// The yearly use in kWh.
+    pub yearly: u32,
+}
+
 extern "C" {
     fn slp_check(file: *const u8, file_length: usize, group: u8) -> CheckReport;
     fn slp_locate(file: *const u8, file_length: usize, group: u8) -> LocatedPart;
@@ -154,6 +175,22 @@ extern "C" {
         page_length: usize,
     ) -> ResponseReport;
     fn slp_holidays(year: u32, choice: u8, list: *mut u32, list_length: usize) -> HolidaysReport;
+    fn slp_deliveries(
+        file: *const u8,
+        file_length: usize,
+        group: u8,
+        first: u32,
+        last: u32,
+        starts: *const u32,
+        starts_length: usize,
+        metered: *const u32,
+        metered_length: usize,
+        holidays: *const u32,
+        holidays_length: usize,
+        yearly: u32,
+        out: *mut i64,
+        out_length: usize,
+    ) -> CheckReport;
 }
 
 // Each pointer and length below is that of one slice, borrowed for the length of the call, as `slp.h` asks; a `&mut` overlaps
@@ -233,4 +270,26 @@ pub fn respond(input: &[u8], page: &mut [u8]) -> ResponseReport {
 /// `slp_holidays`. Bits 0 to 5 of `choice` are those of [`RegionalDay`](crate::RegionalDay).
 pub fn holidays(year: u32, choice: u8, list: &mut [u32]) -> HolidaysReport {
     unsafe { slp_holidays(year, choice, list.as_mut_ptr(), list.len()) }
+}
+
+/// `slp_deliveries`.
+pub fn deliveries(given: &Deliveries, out: &mut [i64]) -> CheckReport {
+    unsafe {
+        slp_deliveries(
+            given.file.as_ptr(),
+            given.file.len(),
+            given.group,
+            given.first,
+            given.last,
+            given.starts.as_ptr(),
+            given.starts.len(),
+            given.metered.as_ptr(),
+            given.metered.len(),
+            given.holidays.as_ptr(),
+            given.holidays.len(),
+            given.yearly,
+            out.as_mut_ptr(),
+            out.len(),
+        )
+    }
 }

@@ -158,6 +158,36 @@ static void holiday_list(void)
     expect("entries needed for the list", tight.place, 12);
 }
 
+static int64_t differences[SLP_MOST_PERIODS];
+
+/* Three periods of a day each from 24 March 2000 on, with 2 kWh metered on each. */
+static struct slp_check_report settled(uint32_t last, size_t metered_length, size_t out_length)
+{
+    static const uint32_t starts[] = {20000324, 20000325, 20000326};
+    static const uint32_t metered[] = {2, 2, 2};
+    return slp_deliveries(file, sizeof file, 1, 20000324, last, starts, 3, metered, metered_length, no_holidays, 0, 1000,
+                          differences, out_length);
+}
+
+static void over_and_under_deliveries(void)
+{
+    differences[3] = 7;
+    struct slp_check_report made = settled(20000326, 3, SLP_MOST_PERIODS);
+    expect("deliveries", made.number, 0);
+    expect("place", made.place, 0);
+    expect("24 March", (uint64_t)-differences[0], 402);
+    expect("25 March", (uint64_t)-differences[1], 402);
+    expect("26 March", (uint64_t)-differences[2], 303);
+    expect("entry beyond the differences", (uint64_t)differences[3], 7);
+    expect("deliveries with two metered values", settled(20000326, 2, 3).number, 17);
+    struct slp_check_report late = settled(20000325, 3, 3);
+    expect("deliveries with a period behind the span", late.number, 18);
+    expect("its index", late.place, 2);
+    struct slp_check_report tight = settled(20000326, 3, 2);
+    expect("deliveries in two entries", tight.number, 12);
+    expect("periods", tight.place, 3);
+}
+
 int main(void)
 {
     file_calls();
@@ -166,5 +196,6 @@ int main(void)
     text();
     regional_days();
     holiday_list();
+    over_and_under_deliveries();
     return faults == 0 ? 0 : 1;
 }

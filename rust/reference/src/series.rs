@@ -54,11 +54,20 @@ pub(crate) struct Accepted<'a> {
 
 /// Questions 1 to 11.
 pub(crate) fn accept<'a>(request: &Request<'a>) -> Result<Accepted<'a>, Refusal> {
+    accept_with(request, || Ok(()))
+}
+
+/// Questions 1 to 11, and those that a later request asks after 8.
+pub(crate) fn accept_with<'a>(
+    request: &Request<'a>,
+    ask_after_8: impl FnOnce() -> Result<(), Refusal>,
+) -> Result<Accepted<'a>, Refusal> {
     let bytes = group_bytes(request.file, request.group)?;
     let first = calendar::real(request.first, 0)?;
     let last = calendar::real(request.last, 1)?;
     let right = first.number <= last.number && last.number - first.number < MOST_DAYS;
     ask(right, 8, 0)?;
+    ask_after_8()?;
     calendar::ask_list(request.holidays)?;
     ask(request.yearly <= LARGEST_USE, 10, 0)?;
     ask(request.carry < CARRY_UNITS, 11, 0)?;
@@ -100,6 +109,27 @@ impl<'a> Accepted<'a> {
         powers
     }
 
+    /// How many figures the series has.
+    pub(crate) fn count(&self) -> usize {
+        self.days().map(Day::values).sum()
+    }
+
+    /// Writes the figures of all days into the first entries of `out`.
+    pub(crate) fn expand(&self, out: &mut [u32]) -> Expansion {
+        let mut made = Expansion {
+            count: 0,
+            total: 0,
+            carry: self.request.carry,
+        };
+        for day in self.days() {
+            let of_day = self.expand_day(day, made.carry, &mut out[made.count..]);
+            made.count += of_day.count;
+            made.total += of_day.total;
+            made.carry = of_day.carry;
+        }
+        made
+    }
+
     /// Writes a day's figures into the first entries of `out`.
     pub(crate) fn expand_day(&self, day: Day, carry: u32, out: &mut [u32]) -> Expansion {
         let powers = self.powers(day);
@@ -132,20 +162,9 @@ pub fn carry_step(power: u32, yearly: u32, carry: u32) -> (u32, u32) {
 /// Makes the series of a period and writes its figures in Wh into the first entries of `out`: questions 1 to 12.
 pub fn expand(request: &Request, out: &mut [u32]) -> Result<Expansion, Refusal> {
     let accepted = accept(request)?;
-    let needed = accepted.days().map(Day::values).sum();
+    let needed = accepted.count();
     ask(out.len() >= needed, 12, needed)?;
-    let mut made = Expansion {
-        count: 0,
-        total: 0,
-        carry: request.carry,
-    };
-    for day in accepted.days() {
-        let of_day = accepted.expand_day(day, made.carry, &mut out[made.count..]);
-        made.count += of_day.count;
-        made.total += of_day.total;
-        made.carry = of_day.carry;
-    }
-    Ok(made)
+    Ok(accepted.expand(out))
 }
 
 #[cfg(test)]

@@ -7,8 +7,8 @@ use std::fmt::Debug;
 use reference::file::{HEAD, PROFILE, VALUES};
 use reference::{DayAnswer, Expansion, Refusal};
 use slp::report::{
-    CheckReport, ComparisonReport, DayReport, ExpansionReport, HolidaysReport, LocatedPart,
-    Request, ResponseReport,
+    CheckReport, ComparisonReport, DayReport, Deliveries, ExpansionReport, HolidaysReport,
+    LocatedPart, Request, ResponseReport,
 };
 use slp::{DayType, Group, RefusalKind, RegionalDay, Season};
 
@@ -316,5 +316,47 @@ pub fn holidays(year: u32, choice: u8, list: &mut [u32], what: &str) -> Result<u
         assert_eq!(found, result(answer), "{what}");
     }
     expect_kept(&before, list, &answer, answer.unwrap_or(0), what);
+    answer
+}
+
+fn reference_deliveries<'a>(given: &Deliveries<'a>) -> reference::Deliveries<'a> {
+    reference::Deliveries {
+        file: given.file,
+        group: given.group,
+        first: given.first,
+        last: given.last,
+        starts: given.starts,
+        metered: given.metered,
+        holidays: given.holidays,
+        yearly: given.yearly,
+    }
+}
+
+/// The same as the package's root takes it, where its code is that of a group.
+fn package_deliveries<'a>(given: &Deliveries<'a>) -> Option<slp::Deliveries<'a>> {
+    Some(slp::Deliveries {
+        file: given.file,
+        group: Group::from_code(given.group)?,
+        first: given.first,
+        last: given.last,
+        starts: given.starts,
+        metered: given.metered,
+        holidays: given.holidays,
+        yearly: given.yearly,
+    })
+}
+
+pub fn deliveries(given: &Deliveries, out: &mut [i64], what: &str) -> Result<(), Refusal> {
+    let before = out.to_vec();
+    let answer = reference::deliveries(&reference_deliveries(given), out);
+    let report = lend(&before, out, what, |out| {
+        slp::report::deliveries(given, out)
+    });
+    assert_eq!(report, check_report(&answer), "{what}");
+    if let Some(given) = package_deliveries(given) {
+        let found = lend(&before, out, what, |out| slp::deliveries(&given, out));
+        assert_eq!(found, result(answer), "{what}");
+    }
+    expect_kept(&before, out, &answer, given.starts.len(), what);
     answer
 }
