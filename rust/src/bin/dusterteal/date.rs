@@ -1,6 +1,8 @@
 //! Dates and periods as the user writes them. Which dates are real is left to the proved day enquiry.
 use std::fmt;
 
+use crate::text::is_digits;
+
 /// The number yyyymmdd of a date, real or not.
 #[derive(Debug, Clone, Copy, PartialEq, Eq, PartialOrd, Ord)]
 pub struct Date(pub u32);
@@ -132,12 +134,8 @@ impl fmt::Display for Date {
 
 /// The number of a text of decimal digits, so many of them.
 fn digits(text: &str, least: usize, most: usize) -> Option<u32> {
-    let all = text.bytes().all(|byte| byte.is_ascii_digit());
-    if all && (least..=most).contains(&text.len()) {
-        text.parse().ok()
-    } else {
-        None
-    }
+    let right = is_digits(text) && (least..=most).contains(&text.len());
+    right.then(|| text.parse().ok()).flatten()
 }
 
 /// The last day of a month. Where the month is not one of the span, no day is real, and it is the 31st.
@@ -196,6 +194,12 @@ impl Period {
     /// Its years.
     pub fn years(self) -> impl Iterator<Item = u32> {
         self.first.year()..=self.last.year()
+    }
+}
+
+impl fmt::Display for Period {
+    fn fmt(&self, f: &mut fmt::Formatter) -> fmt::Result {
+        write!(f, "{}..{}", self.first, self.last)
     }
 }
 
@@ -293,6 +297,18 @@ mod tests {
             "x",
         ] {
             assert_eq!(dates(text), None, "{text:?}");
+        }
+    }
+
+    #[test]
+    fn what_is_written_of_a_period_is_read() {
+        for (text, written) in [
+            ("2000-02", "2000-02-01..2000-02-29"),
+            ("26.03.2000", "2000-03-26..2000-03-26"),
+        ] {
+            let period = Period::parse(text).unwrap();
+            assert_eq!(period.to_string(), written);
+            assert_eq!(Period::parse(written), Some(period));
         }
     }
 

@@ -63,8 +63,7 @@ fn refused(refusal: Refusal, holidays: &Holidays) -> Failure {
         RefusalKind::BadHoliday => holidays.fault_at(refusal.place),
         kind => kind.to_string(),
     };
-    let (number, place) = (refusal.kind.number(), refusal.place);
-    Failure::Refused(format!("{what} (question {number}, place {place})"))
+    Failure::by_question(&what, refusal)
 }
 
 /// A text as a field of CSV: in quotes where it has a separator or a quote.

@@ -11,7 +11,9 @@ use crate::failure::{warn, Failure};
 use crate::files::{Made, Output};
 use crate::names;
 use crate::quarter_hours::{self, Offset};
-use crate::run::{self, Run, Series, Words, CARRY, HOLIDAYS, OUTPUT, PROFILES, SINCE};
+use crate::run::{
+    self, Run, SaidPeriod, Series, Words, Yearly, CARRY, HOLIDAYS, OUTPUT, PROFILES, SINCE,
+};
 use crate::text::quoted;
 
 /// What it takes.
@@ -42,8 +44,8 @@ pub fn make(given: &[OsString]) -> Result<Made, Failure> {
     let words = Words {
         group,
         period: Period::day(date),
-        period_said: format!("DATE {}", word(1)),
-        yearly: word(3),
+        said: SaidPeriod::word(format!("DATE {}", word(1))),
+        yearly: Yearly::parse(&GRAMMAR, word(3))?,
     };
     let decimal = Decimal::of(&GRAMMAR, &arguments)?;
     let run = Run::of(&GRAMMAR, words, &arguments)?;

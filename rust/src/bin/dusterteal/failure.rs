@@ -2,6 +2,8 @@
 use std::fmt;
 use std::io::Write;
 
+use slp::Refusal;
+
 /// What keeps the tool from its work, in words for the user.
 #[derive(Debug, Clone, PartialEq, Eq)]
 pub enum Failure {
@@ -14,6 +16,12 @@ pub enum Failure {
 }
 
 impl Failure {
+    /// A refusal by a question: what was found, and the question's number and place behind it.
+    pub fn by_question(what: &str, refusal: Refusal) -> Failure {
+        let (number, place) = (refusal.kind.number(), refusal.place);
+        Failure::Refused(format!("{what} (question {number}, place {place})"))
+    }
+
     /// The exit status.
     pub fn status(&self) -> u8 {
         match self {

@@ -10,7 +10,7 @@ use crate::failure::{warn, Failure};
 use crate::files::Input;
 use crate::german::{self, Holiday};
 use crate::states::State;
-use crate::text::{self, quoted};
+use crate::text::{self, is_digits, quoted};
 use crate::{heading, help, regional};
 
 /// What the option `--holidays` asks for.
@@ -349,15 +349,13 @@ fn second_date(name: &str) -> Option<&str> {
 }
 
 fn is_day_and_month(word: &str) -> bool {
-    let is_number = |part: &str| {
-        (1..=2).contains(&part.len()) && part.bytes().all(|byte| byte.is_ascii_digit())
-    };
+    let is_number = |part: &str| part.len() <= 2 && is_digits(part);
     word.split_once('.')
         .is_some_and(|(day, month)| is_number(day) && is_number(month))
 }
 
 fn is_eight_digits(word: &str) -> bool {
-    word.len() == 8 && word.bytes().all(|byte| byte.is_ascii_digit())
+    word.len() == 8 && is_digits(word)
 }
 
 /// Rising years as text, those that follow each other in one: 1996 to 1999, 2001.

@@ -26,6 +26,7 @@ mod regional;
 mod request;
 mod run;
 mod series;
+mod sheet;
 mod states;
 mod sums;
 mod table;

@@ -117,8 +117,7 @@ impl Profiles {
             }
             _ => format!("{}: {}", self.name(), self.fault(refusal)),
         };
-        let (number, place) = (refusal.kind.number(), refusal.place);
-        Failure::Refused(format!("{what} (question {number}, place {place})"))
+        Failure::by_question(&what, refusal)
     }
 
     /// What stands at the place of a refusal by questions 1 to 5, and what is allowed.

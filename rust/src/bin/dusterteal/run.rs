@@ -10,7 +10,7 @@ use crate::help;
 use crate::holidays::{Holidays, Wanted};
 use crate::plausibility;
 use crate::profiles::Profiles;
-use crate::text::quoted;
+use crate::text::{is_digits, quoted};
 
 /// The options that say what a run is made from.
 pub const PROFILES: Choice = Choice::with_values("--profiles");
@@ -46,7 +46,7 @@ pub struct Run {
 /// The arguments that refusals speak of, as they were given.
 #[derive(Debug)]
 struct Said {
-    period: String,
+    period: SaidPeriod,
     yearly: String,
     carry: String,
 }
@@ -62,16 +62,101 @@ pub struct Series {
     pub carry_before: u32,
 }
 
-/// What a subcommand's words say, beside its options.
+/// What a subcommand is asked for, beside its options.
 pub struct Words {
     /// The group.
     pub group: Group,
     /// The period.
     pub period: Period,
     /// What refusals call it.
-    pub period_said: String,
+    pub said: SaidPeriod,
     /// The yearly use.
-    pub yearly: String,
+    pub yearly: Yearly,
+}
+
+/// What refusals call a period, and its first and last date.
+#[derive(Debug)]
+pub struct SaidPeriod {
+    /// The period.
+    pub whole: String,
+    /// Its dates.
+    pub dates: [String; 2],
+}
+
+impl SaidPeriod {
+    /// That of a period which is one word.
+    pub fn word(text: String) -> SaidPeriod {
+        SaidPeriod {
+            dates: [text.clone(), text.clone()],
+            whole: text,
+        }
+    }
+}
+
+/// A yearly use.
+pub struct Yearly {
+    kwh: u32,
+    said: String,
+}
+
+impl Yearly {
+    /// The yearly use of the word KWH.
+    pub fn parse(grammar: &Grammar, said: String) -> Result<Yearly, Failure> {
+        let kwh = number(grammar, "KWH", &said, "0 to 1000000000")?;
+        Ok(Yearly { kwh, said })
+    }
+}
+
+/// Where a run begins: on this day or else the period's first, with this carry.
+#[derive(Default)]
+pub struct Beginning {
+    since: Option<Date>,
+    carry: u32,
+    said_carry: String,
+}
+
+impl Beginning {
+    /// What the options `--since` and `--carry` ask for.
+    fn of(grammar: &Grammar, arguments: &Arguments) -> Result<Beginning, Failure> {
+        let said_carry = arguments.text("--carry").unwrap_or_else(|| "0".to_owned());
+        let carry = number(grammar, "--carry", &said_carry, "0 to 39999")?;
+        let since = arguments.text("--since");
+        let since = since.map(|text| date(grammar, "--since", &text));
+        Ok(Beginning {
+            since: since.transpose()?,
+            carry,
+            said_carry,
+        })
+    }
+}
+
+/// What a run is read from: the paths of the profiles, and the list of holidays that is wanted.
+pub struct Sources<'a> {
+    profiles: &'a [OsString],
+    holidays: Wanted,
+}
+
+impl<'a> Sources<'a> {
+    /// What the options `--profiles` and `--holidays` ask for.
+    pub fn of(grammar: &Grammar, arguments: &'a Arguments) -> Result<Sources<'a>, Failure> {
+        let profiles = arguments.values("--profiles");
+        if profiles.is_empty() {
+            return Err(grammar.fault("--profiles is missing: name a profile file or CSV tables"));
+        }
+        let Some(holidays) = arguments.value("--holidays") else {
+            let what = format!("--holidays is missing: it takes {}", help::HOLIDAYS);
+            return Err(grammar.fault(&what));
+        };
+        let options = ["--profiles", "--holidays", "--readings"].into_iter();
+        let paths = options.flat_map(|name| arguments.values(name));
+        if paths.filter(|path| *path == "-").count() > 1 {
+            return Err(grammar.fault("standard input can be read only once"));
+        }
+        Ok(Sources {
+            profiles,
+            holidays: Wanted::parse(grammar, holidays)?,
+        })
+    }
 }
 
 impl Run {
@@ -81,44 +166,43 @@ impl Run {
         let words = Words {
             group: group(grammar, &word(0))?,
             period: period(grammar, &word(1))?,
-            period_said: format!("PERIOD {}", word(1)),
-            yearly: word(2),
+            said: SaidPeriod::word(format!("PERIOD {}", word(1))),
+            yearly: Yearly::parse(grammar, word(2))?,
         };
         Run::of(grammar, words, arguments)
     }
 
-    /// The run that words and options ask for.
+    /// The run that words and options ask for, accepted by expanding's questions.
     pub fn of(grammar: &Grammar, words: Words, arguments: &Arguments) -> Result<Run, Failure> {
+        let beginning = Beginning::of(grammar, arguments)?;
+        let run = Run::load(words, beginning, Sources::of(grammar, arguments)?)?;
+        run.expect_accepted()?;
+        run.warn();
+        Ok(run)
+    }
+
+    /// A run of which no question has been asked yet.
+    pub fn load(words: Words, beginning: Beginning, sources: Sources) -> Result<Run, Failure> {
         let period = words.period;
-        let yearly = number(grammar, "KWH", &words.yearly, "0 to 1000000000")?;
-        let said_carry = arguments.text("--carry").unwrap_or_else(|| "0".to_owned());
-        let carry = number(grammar, "--carry", &said_carry, "0 to 39999")?;
-        let since = match arguments.text("--since") {
-            Some(text) => date(grammar, "--since", &text)?,
-            None => period.first,
-        };
-        let (profiles, holidays) = sources(grammar, arguments)?;
+        let since = beginning.since.unwrap_or(period.first);
         let whole = Period {
             first: since,
             ..period
         };
-        let run = Run {
+        Ok(Run {
             group: words.group,
             period,
             since,
-            yearly,
-            carry,
-            holidays: Holidays::load(&holidays, whole)?,
-            profiles: Profiles::load(profiles)?,
+            yearly: words.yearly.kwh,
+            carry: beginning.carry,
+            holidays: Holidays::load(&sources.holidays, whole)?,
+            profiles: Profiles::load(sources.profiles)?,
             said: Said {
-                period: words.period_said,
-                yearly: words.yearly,
-                carry: said_carry,
+                period: words.said,
+                yearly: words.yearly.said,
+                carry: beginning.said_carry,
             },
-        };
-        run.expect_accepted()?;
-        run.warn();
-        Ok(run)
+        })
     }
 
     /// All of its days: those before the period too.
@@ -129,7 +213,8 @@ impl Run {
         }
     }
 
-    fn warn(&self) {
+    /// Warns of what is likely to be wrong with what it was read from.
+    pub fn warn(&self) {
         self.holidays.warn_of_gaps(self.whole());
         plausibility::warn_of_energy(&self.profiles, self.group);
     }
@@ -171,14 +256,14 @@ impl Run {
     }
 
     /// The failure that a refusal by expanding's questions makes, in the terms of the arguments.
-    fn refused(&self, refusal: Refusal) -> Failure {
-        let period = &self.said.period;
+    pub fn refused(&self, refusal: Refusal) -> Failure {
+        let SaidPeriod { whole, dates } = &self.said.period;
         let what = match refusal.kind {
             RefusalKind::BadDate => {
-                let dates = [self.period.first, self.period.last];
-                format!("{period}: {}", dates[refusal.place].why_not_real())
+                let date = [self.period.first, self.period.last][refusal.place];
+                format!("{}: {}", dates[refusal.place], date.why_not_real())
             }
-            RefusalKind::BadPeriod => format!("{period}: {}", period_fault(self.period)),
+            RefusalKind::BadPeriod => format!("{whole}: {}", period_fault(self.period)),
             RefusalKind::BadHoliday => self.holidays.fault_at(refusal.place),
             RefusalKind::BadUse => format!(
                 "KWH {}: a yearly use is 0 to 1000000000 kWh",
@@ -187,8 +272,7 @@ impl Run {
             RefusalKind::BadCarry => format!("--carry {}: a carry is 0 to 39999", self.said.carry),
             _ => return self.profiles.refused(refusal, self.group),
         };
-        let (number, place) = (refusal.kind.number(), refusal.place);
-        Failure::Refused(format!("{what} (question {number}, place {place})"))
+        Failure::by_question(&what, refusal)
     }
 
     /// The figures of some days, given a carry.
@@ -239,25 +323,6 @@ impl Run {
         let holidays = self.holidays.dates(Period::day(date));
         slp::day(date.0, holidays).map_err(|refusal| self.refused(refusal))
     }
-}
-
-/// The paths of the profiles, and the list of holidays that is wanted.
-fn sources<'a>(
-    grammar: &Grammar,
-    arguments: &'a Arguments,
-) -> Result<(&'a [OsString], Wanted), Failure> {
-    let profiles = arguments.values("--profiles");
-    if profiles.is_empty() {
-        return Err(grammar.fault("--profiles is missing: name a profile file or CSV tables"));
-    }
-    let Some(holidays) = arguments.value("--holidays") else {
-        let what = format!("--holidays is missing: it takes {}", help::HOLIDAYS);
-        return Err(grammar.fault(&what));
-    };
-    if profiles.iter().filter(|path| *path == "-").count() + usize::from(holidays == "-") > 1 {
-        return Err(grammar.fault("standard input can be read only once"));
-    }
-    Ok((profiles, Wanted::parse(grammar, holidays)?))
 }
 
 /// Question 7 of both dates of a period, and their order, where a period may have any length.
@@ -323,7 +388,7 @@ pub fn date(grammar: &Grammar, name: &str, text: &str) -> Result<Date, Failure> 
 
 /// The number of a word or an option. One too large for 32 bits becomes the largest, which the questions refuse.
 fn number(grammar: &Grammar, name: &str, text: &str, range: &str) -> Result<u32, Failure> {
-    if text.is_empty() || !text.bytes().all(|byte| byte.is_ascii_digit()) {
+    if !is_digits(text) {
         let what = format!(
             "{name}: {} is no whole number, {range}, without separators",
             quoted(text)

@@ -5,19 +5,17 @@
 //! 1,000 kWh a year, 0 to 2000.0 with one decimal.
 mod header;
 mod named_group;
-mod sheet;
 mod watts;
 mod words;
 
-use std::fmt;
 use std::ops::Range;
 
 use slp::{Group, GROUP_VALUES};
 
 use crate::amounts::Decimal;
 use crate::clock::{self, Time, QUARTERS};
+use crate::sheet::{self, Fault, Line};
 use crate::text::quoted;
-use sheet::Line;
 
 /// The days that have a column, in the order of the profile file.
 pub const DAYS: [&str; 9] = [
@@ -57,28 +55,9 @@ pub struct Table {
     pub values: Vec<u16>,
 }
 
-/// What is wrong with a table, and where: the line of the text and, where one field is meant, the field's number as the
-/// column, both from 1.
-#[derive(Debug, Clone, PartialEq, Eq)]
-pub struct Fault {
-    line: usize,
-    column: Option<usize>,
-    what: String,
-}
-
-impl fmt::Display for Fault {
-    fn fmt(&self, f: &mut fmt::Formatter) -> fmt::Result {
-        write!(f, "line {}", self.line)?;
-        if let Some(column) = self.column {
-            write!(f, ", column {column}")?;
-        }
-        write!(f, ": {}", self.what)
-    }
-}
-
 /// The table that a text has.
 pub fn parse(text: &str) -> Result<Table, Fault> {
-    let sheet = sheet::read(text)?;
+    let sheet = sheet::read(text, WIDTH)?;
     let header = header::parse(&sheet)?;
     let rows = &sheet.lines[header.length..];
     let mut values = vec![0; GROUP_VALUES];

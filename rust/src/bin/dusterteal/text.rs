@@ -100,6 +100,11 @@ pub fn plain(text: &str) -> String {
     plain
 }
 
+/// Whether a text is decimal digits alone, one at least.
+pub fn is_digits(text: &str) -> bool {
+    !text.is_empty() && text.bytes().all(|byte| byte.is_ascii_digit())
+}
+
 /// A text in quotes, of a long one the beginning.
 pub fn quoted(text: &str) -> String {
     const LONGEST: usize = 40;
@@ -206,6 +211,14 @@ mod tests {
         assert_eq!(plain(" ÜBER_Öl's 3ä. "), "ueberoels3ae");
         assert_eq!(plain("Ko\u{308}nige"), plain("Könige"));
         assert_eq!(plain("-, "), "");
+    }
+
+    #[test]
+    fn digits_are_decimal_and_not_none() {
+        assert!(["0", "007", "4294967296"].into_iter().all(is_digits));
+        assert!(!["", "-1", "1 2", "1.2", "x", "１"]
+            .into_iter()
+            .any(is_digits));
     }
 
     #[test]

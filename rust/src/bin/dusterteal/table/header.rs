@@ -1,10 +1,10 @@
 //! The lines before the rows of a table: titles, one or two header lines, units.
 use slp::Group;
 
-use super::sheet::{Line, Sheet};
 use super::words::{day, meanings, unit, Word};
-use super::{named_group, Fault, DAYS, WIDTH};
+use super::{named_group, DAYS, WIDTH};
 use crate::clock;
+use crate::sheet::{Fault, Line, Sheet};
 use crate::text::quoted;
 
 /// What stands before the rows.
@@ -179,8 +179,8 @@ fn expect_watts(line: &Line) -> Result<(), Fault> {
 
 #[cfg(test)]
 mod tests {
-    use super::super::sheet;
     use super::*;
+    use crate::sheet;
 
     const ENGLISH: &str =
         "G0;winter weekday;winter Saturday;winter Sunday;summer weekday;summer Saturday;\
@@ -192,7 +192,7 @@ mod tests {
     const WEEKDAYS_LAST: [usize; 9] = [1, 2, 0, 4, 5, 3, 7, 8, 6];
 
     fn header(text: &str) -> Result<Header, String> {
-        let sheet = sheet::read(text).expect("fields");
+        let sheet = sheet::read(text, WIDTH).expect("fields");
         parse(&sheet).map_err(|fault| fault.to_string())
     }
 

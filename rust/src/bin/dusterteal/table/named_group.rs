@@ -1,10 +1,9 @@
 //! The group that the lines before the rows name.
 use slp::{Group, UnknownGroup};
 
-use super::sheet::Line;
 use super::words::words;
-use super::Fault;
-use crate::text::quoted;
+use crate::sheet::{Fault, Line};
+use crate::text::{is_digits, quoted};
 
 /// The one group of these lines, where they name one.
 pub fn find(lines: &[Line]) -> Result<Option<Group>, Fault> {
@@ -60,18 +59,17 @@ fn is_after_profile(words: &[String], index: usize) -> bool {
 /// Whether a word is a letter and a number.
 fn is_code(word: &str) -> bool {
     let number = word.strip_prefix(|c: char| c.is_ascii_alphabetic());
-    number.is_some_and(|digits| {
-        !digits.is_empty() && digits.bytes().all(|byte| byte.is_ascii_digit())
-    })
+    number.is_some_and(is_digits)
 }
 
 #[cfg(test)]
 mod tests {
-    use super::super::sheet;
+    use super::super::WIDTH;
     use super::*;
+    use crate::sheet;
 
     fn found(text: &str) -> Result<Option<Group>, String> {
-        let sheet = sheet::read(text).expect("fields");
+        let sheet = sheet::read(text, WIDTH).expect("fields");
         find(&sheet.lines).map_err(|fault| fault.to_string())
     }
 

@@ -1,5 +1,5 @@
 //! Values in watts.
-use crate::text::quoted;
+use crate::text::{is_digits, quoted};
 
 /// The largest value, in tenths of a watt.
 const LARGEST: u32 = 20_000;
@@ -50,10 +50,6 @@ fn too_many_decimals(whole: &str, decimals: &str) -> &'static str {
 fn number(field: &str) -> Option<(&str, &str)> {
     let (whole, decimals) = field.split_once([',', '.']).unwrap_or((field, "0"));
     (is_digits(whole) && is_digits(decimals)).then_some((whole, decimals))
-}
-
-fn is_digits(text: &str) -> bool {
-    !text.is_empty() && text.bytes().all(|byte| byte.is_ascii_digit())
 }
 
 fn tenths(whole: &str, decimals: &str) -> u32 {

@@ -1,8 +1,26 @@
-//! The lines and fields of a table's text.
-use super::{Fault, WIDTH};
+//! The lines and fields of a text that spreadsheets write.
+use std::fmt;
 
 /// What may separate fields, in the order in which it is looked for.
 const SEPARATORS: [char; 3] = [';', '\t', ','];
+
+/// What is wrong with a text, and where: its line and, where one field is meant, the field's number as the column, both from 1.
+#[derive(Debug, Clone, PartialEq, Eq)]
+pub struct Fault {
+    line: usize,
+    column: Option<usize>,
+    what: String,
+}
+
+impl fmt::Display for Fault {
+    fn fmt(&self, f: &mut fmt::Formatter) -> fmt::Result {
+        write!(f, "line {}", self.line)?;
+        if let Some(column) = self.column {
+            write!(f, ", column {column}")?;
+        }
+        write!(f, ": {}", self.what)
+    }
+}
 
 /// The lines of a text that have content, in fields.
 #[derive(Debug, PartialEq, Eq)]
@@ -77,13 +95,14 @@ impl Line {
     }
 }
 
-/// Splits a text in fields. Empty lines, lines of separators only and lines that begin with `#` are passed over.
-pub fn read(text: &str) -> Result<Sheet, Fault> {
+/// Splits a text of so many columns, two at least, in fields. Empty lines, lines of separators only and lines that begin with `#` are
+/// passed over.
+pub fn read(text: &str, columns: usize) -> Result<Sheet, Fault> {
     let declared = declared_separator(text)?;
     let mut reader = Reader {
         rest: text,
         number: 1,
-        separator: declared.unwrap_or_else(|| found_separator(text)),
+        separator: declared.unwrap_or_else(|| found_separator(text, columns)),
     };
     if declared.is_some() {
         reader.skip_line();
@@ -126,7 +145,7 @@ fn declared_separator(text: &str) -> Result<Option<char>, Fault> {
 }
 
 /// The separator that some line has often enough for all columns, as a header does; else one that stands anywhere.
-fn found_separator(text: &str) -> char {
+fn found_separator(text: &str, columns: usize) -> char {
     let has = |line: &str, separator: char, times: usize| {
         // Every second part between quotes is outside of them.
         let outside = line.split('"').step_by(2);
@@ -138,7 +157,9 @@ fn found_separator(text: &str) -> char {
             lines.any(|line| has(line, separator, times))
         })
     };
-    find(WIDTH - 1).or_else(|| find(1)).unwrap_or(SEPARATORS[0])
+    find(columns - 1)
+        .or_else(|| find(1))
+        .unwrap_or(SEPARATORS[0])
 }
 
 /// Whether a line begins with `#`, also in quotes, as spreadsheets write a remark that has a comma.
@@ -230,6 +251,11 @@ impl<'a> Reader<'a> {
 mod tests {
     use super::*;
 
+    /// A text of ten columns, as a table has them.
+    fn read(text: &str) -> Result<Sheet, Fault> {
+        super::read(text, 10)
+    }
+
     fn lines(text: &str) -> Vec<(usize, Vec<String>)> {
         let sheet = read(text).expect("fields");
         let lines = sheet.lines.into_iter();
@@ -269,6 +295,16 @@ mod tests {
         assert_eq!(separator("\"a;b\",c"), ',');
         assert_eq!(separator("a"), ';');
         assert_eq!(separator(""), ';');
+    }
+
+    /// Where two columns are wanted, one separator is enough, and a comma in a field does not hide it.
+    #[test]
+    fn two_columns_have_one_separator() {
+        let separator = |text| super::read(text, 2).expect("fields").separator;
+        assert_eq!(separator("a;b\nc,d,e;f"), ';');
+        assert_eq!(separator("a,b,c\nd;e"), ';');
+        assert_eq!(separator("a\tb,c"), '\t');
+        assert_eq!(separator("# a;b\nc,d"), ',');
     }
 
     #[test]
