@@ -3,8 +3,16 @@ use crate::made::{FILE, TABLE};
 use crate::tool::{says, stopped, written};
 
 /// The subcommands that the first help has, and those for binary files.
-const USUAL: [&str; 8] = [
-    "series", "sums", "days", "explain", "day", "holidays", "check", "compare",
+const USUAL: [&str; 9] = [
+    "series",
+    "sums",
+    "deliveries",
+    "days",
+    "explain",
+    "day",
+    "holidays",
+    "check",
+    "compare",
 ];
 const BINARY: [&str; 3] = ["pack", "unpack", "request"];
 
@@ -98,7 +106,7 @@ fn the_version_is_that_of_the_package() {
 }
 
 const SUBCOMMANDS: &str =
-    "they are series, sums, days, explain, day, holidays, check, compare, pack, unpack, request";
+    "they are series, sums, deliveries, days, explain, day, holidays, check, compare, pack, unpack, request";
 
 #[test]
 fn what_is_no_subcommand_is_named() {

@@ -6,6 +6,7 @@ mod check;
 mod command_line;
 mod compare;
 mod days;
+mod deliveries;
 #[allow(dead_code)] // the tests of the calls use the rest
 #[path = "../draw/mod.rs"]
 mod draw;

@@ -108,6 +108,14 @@ impl Format {
         text.push(self.decimal.sign());
         text.extend([100, 10, 1].map(|place| digit(thousandths / place % 10)));
     }
+
+    /// Adds an energy that may be negative.
+    pub fn put_signed(self, text: &mut Vec<u8>, energy: i64) {
+        if energy < 0 {
+            text.push(b'-');
+        }
+        self.put(text, energy.unsigned_abs());
+    }
 }
 
 fn digit(number: u64) -> u8 {
@@ -146,6 +154,20 @@ mod tests {
         assert_eq!(text(Unit::KilowattHours, Decimal::Point, 7), "0.007");
         assert_eq!(text(Unit::Kilowatts, Decimal::Point, 26), "0.104");
         assert_eq!(text(Unit::Kilowatts, Decimal::Comma, 250), "1,000");
+    }
+
+    #[test]
+    fn a_negative_amount_has_a_minus_sign() {
+        let signed = |unit, energy| {
+            let (mut text, decimal) = (Vec::new(), Decimal::Comma);
+            Format { unit, decimal }.put_signed(&mut text, energy);
+            String::from_utf8(text).unwrap()
+        };
+        let watt_hours = [-402, 0, 698].map(|energy| signed(Unit::WattHours, energy));
+        assert_eq!(watt_hours, ["-402", "0", "698"]);
+        let kilowatt_hours = [-402, -1_107, 7].map(|energy| signed(Unit::KilowattHours, energy));
+        assert_eq!(kilowatt_hours, ["-0,402", "-1,107", "0,007"]);
+        assert_eq!(signed(Unit::WattHours, i64::MIN), i64::MIN.to_string());
     }
 
     #[test]

@@ -287,6 +287,7 @@ impl Grammar {
                     "; a period is one word, as 2026-01-15..2026-02-14, and a value with blanks stands in quotes"
                 }
                 [_, _, "TIME", ..] => "; time and offset are one word, as 02:15+01:00",
+                ["GROUP", "KWH"] => "; the periods are those of --readings and --until",
                 _ => "",
             };
             let (takes, given) = (self.words.join(" "), given.join(" "));

@@ -8,14 +8,15 @@ pub const OVERVIEW: &str = "dusterteal: quarter-hour series from the VDEW load p
 
     dusterteal SUBCOMMAND ARGUMENTS OPTIONS
 
-  series    the figures of a period as CSV
-  sums      counts and energy of its days, months, quarters or years as CSV
-  days      a line for each day, as the program slp prints it
-  explain   how one figure comes about
-  day       the calendar of a period: t, weekday, season, day type and why
-  holidays  the German holidays of a period, with the regional days of your choice, as a list
-  check     whether a profile file or a table is accepted, and whether it is likely to be right
-  compare   whether two groups or two files have the same values, or which cells differ
+  series      the figures of a period as CSV
+  sums        counts and energy of its days, months, quarters or years as CSV
+  deliveries  metered minus balanced energy of a customer's reading periods as CSV
+  days        a line for each day, as the program slp prints it
+  explain     how one figure comes about
+  day         the calendar of a period: t, weekday, season, day type and why
+  holidays    the German holidays of a period, with the regional days of your choice, as a list
+  check       whether a profile file or a table is accepted, and whether it is likely to be right
+  compare     whether two groups or two files have the same values, or which cells differ
 
 `dusterteal SUBCOMMAND --help` says what each takes; `dusterteal --help all` names three more, for binary files.
 `dusterteal --version` prints the version.
@@ -45,6 +46,11 @@ const WORDS_OF_EXPLAIN: &str = "
   DATE    2000-10-29 or 29.10.2000
   TIME    the end of the quarter hour, 00:15 to 24:00; in October's doubled hour with its offset, 02:15+01:00
   KWH     the yearly use, a whole number from 0 to 1000000000
+";
+
+const WORDS_OF_DELIVERIES: &str = "
+  GROUP   H0 (households), G0 to G6 (trade), L0 to L2 (farms), in capitals or not
+  KWH     the yearly use by which the customer is balanced, a whole number from 0 to 1000000000
 ";
 
 /// What the option `--holidays` takes, in a message.
@@ -78,6 +84,9 @@ const KEPT: &str = "  --carry-out FILE      write the last carry to FILE
   --about FILE          write how the series was made: arguments, version, the SHA-256 of tool and files, count, total, carry
 ";
 
+const ENERGY_UNIT: &str = "  --unit Wh|kWh         what energy is written in; Wh without it
+";
+
 const DECIMALS: &str = "  --decimal comma|point how decimals are written; comma without it
 ";
 
@@ -86,6 +95,7 @@ pub fn of(name: &str) -> Option<String> {
     match name {
         "series" => Some(series()),
         "sums" => Some(sums()),
+        "deliveries" => Some(deliveries()),
         "days" => Some(days()),
         "explain" => Some(explain()),
         "day" => Some(day()),
@@ -132,12 +142,28 @@ fn sums() -> String {
     let by = "  --by day|month|quarter|year
                         what a line adds up; month without it
 ";
-    let unit = "  --unit Wh|kWh         what energy is written in; Wh without it
-";
     run(
         "sums GROUP PERIOD KWH",
         does,
-        &[by, BEGINNING, unit, DECIMALS, KEPT, FILES],
+        &[by, BEGINNING, ENERGY_UNIT, DECIMALS, KEPT, FILES],
+    )
+}
+
+fn deliveries() -> String {
+    let does = "Writes metered energy, balanced energy and their difference of each reading period of a customer as CSV, and a last line with the
+total: period;metered Wh;balanced Wh;difference Wh. The difference is metered minus balanced energy, positive where the customer
+drew more (source document 001, equation 4.8). The balanced energy is that of the series from the first period's first day on,
+begun with carry 0.";
+    let readings = "  --readings FILE       a CSV file with a line for each period, 1 to 48 in their order: its first date and its metered kWh, a whole
+                        number (the period's energy, not what the meter shows), split by a semicolon, a tab or a comma. A
+                        header as date;kWh or Datum;kWh may stand first. A period ends the day before the next one begins
+  --until DATE          the last day of the last period; 1461 days at most from the first
+";
+    run_of(
+        "deliveries GROUP KWH --readings FILE --until DATE",
+        does,
+        WORDS_OF_DELIVERIES,
+        &[readings, ENERGY_UNIT, DECIMALS, FILES],
     )
 }
 

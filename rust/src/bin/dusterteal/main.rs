@@ -9,6 +9,7 @@ mod compare;
 mod date;
 mod day;
 mod days;
+mod deliveries;
 mod explain;
 mod failure;
 mod files;
@@ -22,6 +23,7 @@ mod pack;
 mod plausibility;
 mod profiles;
 mod quarter_hours;
+mod readings;
 mod regional;
 mod request;
 mod run;
@@ -42,9 +44,10 @@ use files::Made;
 type Maker = fn(&[OsString]) -> Result<Made, Failure>;
 
 /// The subcommands.
-const SUBCOMMANDS: [(&str, Maker); 11] = [
+const SUBCOMMANDS: [(&str, Maker); 12] = [
     ("series", series::make),
     ("sums", sums::make),
+    ("deliveries", deliveries::make),
     ("days", days::make),
     ("explain", explain::make),
     ("day", day::make),
@@ -140,6 +143,7 @@ mod tests {
         let grammars = [
             &series::GRAMMAR,
             &sums::GRAMMAR,
+            &deliveries::GRAMMAR,
             &days::GRAMMAR,
             &explain::GRAMMAR,
             &day::GRAMMAR,
