@@ -2,7 +2,10 @@
 use std::collections::BTreeMap;
 
 use reference::calendar::{day_of, Day};
-use slp::{file_length, Group, Refusal, RefusalKind, RegionalDay, Request, GROUP_VALUES};
+use slp::{
+    file_length, Deliveries, Group, Refusal, RefusalKind, RegionalDay, Request, GROUP_VALUES,
+    MOST_PERIODS,
+};
 
 use crate::calls::{Answer, Calls, Work, ALL, PROVED};
 use crate::inputs::Inputs;
@@ -45,7 +48,9 @@ fn difference(name: &str, proved: &Work, work: &Work) -> String {
             "{name} has entry {i} as {}, the proved call as {}",
             work.out[i], proved.out[i]
         ),
-        None => format!("{name} leaves another table or buffer than the proved call"),
+        None => {
+            format!("{name} leaves another table, another buffer or other differences than the proved call")
+        }
     }
 }
 
@@ -75,6 +80,10 @@ struct Case {
     regional: Vec<RegionalDay>,
     /// The length of the list lent for the holidays.
     lent_list: usize,
+    starts: Vec<u32>,
+    metered: Vec<u32>,
+    /// How many entries are lent for the differences.
+    lent_differences: usize,
 }
 
 fn draw_groups(random: &mut Random) -> Vec<Group> {
@@ -169,6 +178,29 @@ fn draw_regional(random: &mut Random) -> Vec<RegionalDay> {
     days.filter(|_| random.once_in(2)).collect()
 }
 
+/// First dates of reading periods, mostly rising from the first date on and not behind the last.
+fn draw_starts(random: &mut Random, first: u32, last: u32) -> Vec<u32> {
+    let most = random.one_of(&[1, 2, 12, MOST_PERIODS, MOST_PERIODS + 1]);
+    let gap = random.one_of(&[1, 3, 30]);
+    let mut step = |day: Day| (0..=random.below(gap)).fold(day, |day, _| day.next());
+    let days = std::iter::successors(day_of(first), |&day| Some(step(day)));
+    let mut starts: Vec<u32> = days.map(|day| day.date()).take(most).collect();
+    if !random.once_in(6) {
+        starts.retain(|&start| start <= last);
+    }
+    if !starts.is_empty() && random.once_in(12) {
+        let at = random.below(starts.len() as u32) as usize;
+        starts[at] = random.one_of(&[0, 20000230, starts[0], last]);
+    }
+    starts
+}
+
+/// Metered kWh, mostly one for each period.
+fn draw_metered(random: &mut Random, periods: usize) -> Vec<u32> {
+    let metered = periods + usize::from(random.once_in(20));
+    (0..metered).map(|_| random.below(1_000_000)).collect()
+}
+
 impl Case {
     fn draw(random: &mut Random) -> Case {
         let mut groups = draw_groups(random);
@@ -193,6 +225,7 @@ impl Case {
             let at = random.below(holidays.len() as u32) as usize;
             holidays[at] = random.one_of(&[0, 20000230, holidays[0]]);
         }
+        let starts = draw_starts(random, first, last);
         let yearly = random.below(1_000_000_000);
         let yearly = [
             0,
@@ -218,6 +251,9 @@ impl Case {
             year: draw_year(random),
             regional: draw_regional(random),
             lent_list: random.one_of(&[0, 9, 10, 11, 14, 16, 17, 17, 17, 20]),
+            lent_differences: (starts.len() + random.one_of(&[1, 1, 4, 0])).saturating_sub(1),
+            metered: draw_metered(random, starts.len()),
+            starts,
             file,
             groups,
             values,
@@ -239,6 +275,19 @@ impl Case {
         }
     }
 
+    fn deliveries(&self) -> Deliveries<'_> {
+        Deliveries {
+            file: &self.file,
+            group: self.group,
+            first: self.first,
+            last: self.last,
+            starts: &self.starts,
+            metered: &self.metered,
+            holidays: &self.holidays,
+            yearly: self.yearly,
+        }
+    }
+
     /// How many entries of output expanding asks for.
     fn needed(&self) -> usize {
         match slp::expand(&self.request(), &mut []) {
@@ -250,10 +299,10 @@ impl Case {
         }
     }
 
-    /// All ways on the five calls: the proved answers.
-    fn run(&self) -> Result<[Answer; 5], String> {
+    /// All ways on the six calls: the proved answers.
+    fn run(&self) -> Result<[Answer; 6], String> {
         let [out, table, buffer] = self.lent;
-        let lent = || Work::new(out, table, buffer);
+        let lent = || Work::new(out, table, buffer, 0);
         let request = self.request();
         let expanded = same(lent, |calls, work| {
             work.expanded = Some((calls.expand)(&request, &mut work.out));
@@ -268,10 +317,17 @@ impl Case {
             work.answered = Some((calls.write)(&self.groups, &self.values, &mut work.buffer));
         })?;
         let listed = same(
-            || Work::new(self.lent_list, 0, 0),
+            || Work::new(self.lent_list, 0, 0, 0),
             |calls, work| {
                 let listed = (calls.holidays)(self.year, &self.regional, &mut work.out);
                 work.listed = Some(listed);
+            },
+        )?;
+        let given = self.deliveries();
+        let settled = same(
+            || Work::new(0, 0, 0, self.lent_differences),
+            |calls, work| {
+                work.answered = Some((calls.deliveries)(&given, &mut work.differences));
             },
         )?;
         let answers = [
@@ -280,6 +336,7 @@ impl Case {
             read.answered,
             written.answered,
             listed.listed.map(|answer| answer.map(|_| ())),
+            settled.answered,
         ];
         Ok(answers.map(|answer| answer.expect("every call was made")))
     }
@@ -310,8 +367,8 @@ pub fn on_random_requests() -> Result<Tally, String> {
         let case = Case::draw(&mut random);
         let answers = case.run().map_err(|difference| {
             format!(
-                "random request {i} (group {}, {} to {}, {} kWh, carry {}, {} holidays; year {}, {:?}): {difference}",
-                case.group, case.first, case.last, case.yearly, case.carry, case.holidays.len(), case.year, case.regional
+                "random request {i} (group {}, {} to {}, {} kWh, carry {}, {} holidays, {} periods; year {}, {:?}): {difference}",
+                case.group, case.first, case.last, case.yearly, case.carry, case.holidays.len(), case.starts.len(), case.year, case.regional
             )
         })?;
         answers.into_iter().for_each(|answer| tally.note(answer));

@@ -1,7 +1,7 @@
 //! The calls that are compared, for each implementation, and what they are lent and answer.
-use slp::{Expansion, Group, Refusal, RefusalKind, RegionalDay, Request};
+use slp::{Deliveries, Expansion, Group, Refusal, RefusalKind, RegionalDay, Request, MOST_PERIODS};
 
-use crate::{fast, holidays, kept};
+use crate::{deliveries, fast, holidays, kept};
 
 pub type Answer = Result<(), Refusal>;
 
@@ -15,6 +15,7 @@ pub struct Calls {
     pub write: fn(&[Group], &[u16], &mut [u8]) -> Answer,
     pub expand: fn(&Request, &mut [u32]) -> Result<Expansion, Refusal>,
     pub holidays: fn(u32, &[RegionalDay], &mut [u32]) -> Listed,
+    pub deliveries: fn(&Deliveries, &mut [i64]) -> Answer,
 }
 
 pub static PROVED: Calls = Calls {
@@ -24,6 +25,7 @@ pub static PROVED: Calls = Calls {
     write: slp::write,
     expand: slp::expand,
     holidays: slp::holidays,
+    deliveries: slp::deliveries,
 };
 
 /// The reference: the plain safe Rust that an engineer would write from document 01, carry step by carry step. It takes codes;
@@ -47,6 +49,9 @@ pub static PLAIN: Calls = Calls {
     holidays: |year, regional, list| {
         reference::holidays(year, RegionalDay::choice(regional), list).map_err(refusal)
     },
+    deliveries: |given, out| {
+        reference::deliveries(&reference_deliveries(given), out).map_err(refusal)
+    },
 };
 
 fn refusal(no: reference::Refusal) -> Refusal {
@@ -68,6 +73,19 @@ fn reference_request<'a>(request: &Request<'a>) -> reference::Request<'a> {
     }
 }
 
+fn reference_deliveries<'a>(given: &Deliveries<'a>) -> reference::Deliveries<'a> {
+    reference::Deliveries {
+        file: given.file,
+        group: given.group.code(),
+        first: given.first,
+        last: given.last,
+        starts: given.starts,
+        metered: given.metered,
+        holidays: given.holidays,
+        yearly: given.yearly,
+    }
+}
+
 pub static FAST: Calls = Calls {
     name: "fast",
     check: fast::check,
@@ -75,6 +93,7 @@ pub static FAST: Calls = Calls {
     write: fast::write,
     expand: fast::expand,
     holidays: holidays::holidays,
+    deliveries: deliveries::deliveries,
 };
 
 /// Expanding with tables kept for the whole call; the other calls are those of `FAST`.
@@ -85,6 +104,7 @@ pub static KEPT: Calls = Calls {
     write: fast::write,
     expand: kept::expand,
     holidays: holidays::holidays,
+    deliveries: deliveries::deliveries,
 };
 
 pub static ALL: [&Calls; 4] = [&PROVED, &PLAIN, &FAST, &KEPT];
@@ -95,6 +115,7 @@ pub struct Work {
     pub out: Vec<u32>,
     pub table: Vec<u16>,
     pub buffer: Vec<u8>,
+    pub differences: Vec<i64>,
     pub expanded: Option<Result<Expansion, Refusal>>,
     pub answered: Option<Answer>,
     pub listed: Option<Listed>,
@@ -102,11 +123,12 @@ pub struct Work {
 
 impl Work {
     /// Lent memory of these lengths, with a content that no call writes by chance.
-    pub fn new(out: usize, table: usize, buffer: usize) -> Work {
+    pub fn new(out: usize, table: usize, buffer: usize, differences: usize) -> Work {
         Work {
             out: vec![0xA5A5_A5A5; out],
             table: vec![0xA5A5; table],
             buffer: vec![0xA5; buffer],
+            differences: vec![0xA5A5_A5A5_A5A5; differences],
             expanded: None,
             answered: None,
             listed: None,
@@ -115,6 +137,11 @@ impl Work {
 
     /// Enough for every call.
     pub fn longest() -> Work {
-        Work::new(slp::LONGEST_SERIES, slp::GROUP_VALUES, slp::file_length(11))
+        Work::new(
+            slp::LONGEST_SERIES,
+            slp::GROUP_VALUES,
+            slp::file_length(11),
+            MOST_PERIODS,
+        )
     }
 }

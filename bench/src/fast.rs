@@ -1,7 +1,7 @@
 //! The fast baseline: the fastest safe Rust that we could write for the same answers, with a day's 96 powers laid out by value.
 //! No division waits for the one before it, the loops run over arrays of fixed length, and most are written so that the
 //! compiler puts several entries into one register of x86-64.
-use reference::calendar::{day_of, is_date};
+use reference::calendar::{day_of, is_date, Day};
 use slp::{Expansion, Group, Refusal, RefusalKind, Request};
 
 use crate::days::{values_of, Days};
@@ -12,7 +12,7 @@ const VALUES: usize = 864;
 
 pub type Table = [u8; 192];
 
-fn refuse<T>(kind: RefusalKind, place: usize) -> Result<T, Refusal> {
+pub fn refuse<T>(kind: RefusalKind, place: usize) -> Result<T, Refusal> {
     Err(Refusal { kind, place })
 }
 
@@ -132,6 +132,40 @@ pub fn write(groups: &[Group], values: &[u16], buffer: &mut [u8]) -> Result<(), 
 
 // The questions of a series.
 
+/// What questions 1 to 8 find.
+pub struct Opened<'a> {
+    pub tables: &'a [Table],
+    pub first: Day,
+    pub last: Day,
+}
+
+pub fn open(file: &[u8], group: Group, first: u32, last: u32) -> Result<Opened<'_>, Refusal> {
+    let part = find(file, group)?;
+    let Some(first) = day_of(first) else {
+        return refuse(RefusalKind::BadDate, 0);
+    };
+    let Some(last) = day_of(last) else {
+        return refuse(RefusalKind::BadDate, 1);
+    };
+    if first.number > last.number || last.number - first.number >= 1_461 {
+        return refuse(RefusalKind::BadPeriod, 0);
+    }
+    Ok(Opened {
+        tables: part.as_chunks().0,
+        first,
+        last,
+    })
+}
+
+/// Questions 9 and 10.
+pub fn check_basis(holidays: &[u32], yearly: u32) -> Result<(), Refusal> {
+    check_list(holidays)?;
+    if yearly > 1_000_000_000 {
+        return refuse(RefusalKind::BadUse, 0);
+    }
+    Ok(())
+}
+
 /// Question 9.
 fn check_list(holidays: &[u32]) -> Result<(), Refusal> {
     let mut before = 0;
@@ -155,20 +189,12 @@ pub fn accept<'a, 'b>(
     request: &Request<'a>,
     out: &'b mut [u32],
 ) -> Result<Accepted<'a, 'b>, Refusal> {
-    let part = find(request.file, request.group)?;
-    let Some(first) = day_of(request.first) else {
-        return refuse(RefusalKind::BadDate, 0);
-    };
-    let Some(last) = day_of(request.last) else {
-        return refuse(RefusalKind::BadDate, 1);
-    };
-    if first.number > last.number || last.number - first.number >= 1_461 {
-        return refuse(RefusalKind::BadPeriod, 0);
-    }
-    check_list(request.holidays)?;
-    if request.yearly > 1_000_000_000 {
-        return refuse(RefusalKind::BadUse, 0);
-    }
+    let Opened {
+        tables,
+        first,
+        last,
+    } = open(request.file, request.group, request.first, request.last)?;
+    check_basis(request.holidays, request.yearly)?;
     if request.carry > 39_999 {
         return refuse(RefusalKind::BadCarry, 0);
     }
@@ -177,7 +203,7 @@ pub fn accept<'a, 'b>(
         return refuse(RefusalKind::ShortOutput, needed);
     };
     Ok(Accepted {
-        tables: part.as_chunks().0,
+        tables,
         days: Days::new(first, last, request.holidays),
         figures,
     })
@@ -192,22 +218,40 @@ fn factor(t: u32) -> u32 {
     ((x + 50_000_000) / 100_000_000) as u32
 }
 
-/// Lays out a household's day. All is done in 16 bits, so that eight values fit one register: P times F / 10,000, the latter
-/// rounded to 1/32,768, is less than 0.31 from the exact product, so its whole part is Q or one less, and the rest, which is
-/// between 1,900 and 18,100, says which.
-fn lay_household(table: &Table, t: u32, powers: &mut [u32; 96]) {
-    let factor = factor(t);
-    let scale = ((32_768 * factor + 5_000) / 10_000) as u16;
-    let factor = factor as u16;
-    let mut short = [0; 96];
-    for (power, bytes) in short.iter_mut().zip(table.as_chunks::<2>().0) {
-        let value = u16::from_be_bytes(*bytes);
-        let whole = ((u32::from(2 * value) * u32::from(scale)) >> 16) as u16;
+/// A day's factor for powers in 16 bits, so that eight fit one register: P times F / 10,000, the latter rounded to 1/32,768, is less
+/// than 0.31 from the exact product, so its whole part is Q or one less, and the rest, which is between 1,900 and 18,100, says which.
+#[derive(Clone, Copy)]
+pub struct Scale {
+    factor: u16,
+    scale: u16,
+}
+
+impl Scale {
+    pub fn on(t: u32) -> Scale {
+        let factor = factor(t);
+        Scale {
+            factor: factor as u16,
+            scale: ((32_768 * factor + 5_000) / 10_000) as u16,
+        }
+    }
+
+    #[inline]
+    pub fn power(self, value: u16) -> u16 {
+        let whole = ((u32::from(2 * value) * u32::from(self.scale)) >> 16) as u16;
         let rest = value
-            .wrapping_mul(factor)
+            .wrapping_mul(self.factor)
             .wrapping_add(5_000)
             .wrapping_sub(whole.wrapping_mul(10_000));
-        *power = whole + u16::from(rest as i16 >= 10_000);
+        whole + u16::from(rest as i16 >= 10_000)
+    }
+}
+
+/// Lays out a household's day.
+fn lay_household(table: &Table, t: u32, powers: &mut [u32; 96]) {
+    let scale = Scale::on(t);
+    let mut short = [0; 96];
+    for (power, bytes) in short.iter_mut().zip(table.as_chunks::<2>().0) {
+        *power = scale.power(u16::from_be_bytes(*bytes));
     }
     *powers = short.map(u32::from);
 }

@@ -1,5 +1,5 @@
 //! What the calls are measured on: a full file of eleven profiles with made-up values, and a list of holidays.
-use slp::{file_length, Group, Request, GROUP_VALUES};
+use slp::{file_length, Deliveries, Group, Request, GROUP_VALUES};
 
 use crate::random::Random;
 
@@ -27,6 +27,12 @@ fn holidays() -> Vec<u32> {
         .collect()
 }
 
+/// The first days of the months of 2000.
+static MONTHS: [u32; 12] = [
+    20000101, 20000201, 20000301, 20000401, 20000501, 20000601, 20000701, 20000801, 20000901,
+    20001001, 20001101, 20001201,
+];
+
 impl Inputs {
     pub fn new() -> Inputs {
         let groups = Group::ALL.to_vec();
@@ -50,6 +56,20 @@ impl Inputs {
             holidays: &self.holidays,
             yearly: 3_500,
             carry: 0,
+        }
+    }
+
+    /// The months of 2000, with about a twelfth of the yearly use each.
+    pub fn deliveries(&self, group: Group) -> Deliveries<'_> {
+        Deliveries {
+            file: &self.file,
+            group,
+            first: 20000101,
+            last: 20001231,
+            starts: &MONTHS,
+            metered: &[292; 12],
+            holidays: &self.holidays,
+            yearly: 3_500,
         }
     }
 }

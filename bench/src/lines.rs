@@ -25,7 +25,7 @@ fn list_years(calls: &Calls, work: &mut Work) {
     }
 }
 
-pub static LINES: [Line; 11] = [
+pub static LINES: [Line; 12] = [
     Line {
         name: "h0-year",
         title: "expand H0, 366 days",
@@ -106,6 +106,15 @@ pub static LINES: [Line; 11] = [
         title: "holidays, 104 years",
         units: 1_767,
         run: |calls, _, work| list_years(calls, work),
+    },
+    Line {
+        name: "deliveries",
+        title: "deliveries H0, 12 months",
+        units: 35_136,
+        run: |calls, inputs, work| {
+            let given = inputs.deliveries(Group::H0);
+            work.answered = Some((calls.deliveries)(&given, &mut work.differences));
+        },
     },
 ];
 

@@ -3,6 +3,7 @@
 mod agree;
 mod calls;
 mod days;
+mod deliveries;
 mod fast;
 mod holidays;
 mod inputs;
@@ -24,8 +25,8 @@ use lines::Line;
 
 const USAGE: &str = "usage: bench                        compare all ways, then measure
        bench count WAY LINE TIMES   make the calls of a line and nothing else, for callgrind
-WAY is proved, plain, fast or kept; LINE is h0-year, g0-year, h0-longest, g0-longest, h0-day, h0-large, h0-exact, check, read, write
-or holidays.";
+WAY is proved, plain, fast or kept; LINE is h0-year, g0-year, h0-longest, g0-longest, h0-day, h0-large, h0-exact, check, read, write,
+holidays or deliveries.";
 
 /// What the command line asks for.
 enum Task {
