@@ -277,8 +277,20 @@ fn the_commands_of_the_readme_run() {
     assert_eq!(
         subcommands,
         [
-            "series", "sums", "days", "explain", "day", "holidays", "check", "compare", "holidays",
-            "sed", "day", "days", "days"
+            "series",
+            "sums",
+            "deliveries",
+            "days",
+            "explain",
+            "day",
+            "holidays",
+            "check",
+            "compare",
+            "holidays",
+            "sed",
+            "day",
+            "days",
+            "days"
         ]
     );
     let mut agreements = 0;
@@ -315,6 +327,41 @@ fn the_lines_of_the_readme_are_those_of_its_series() {
     for line in shown {
         assert!(series.contains(&format!("\n2000-10-29;{line}\n")), "{line}");
     }
+}
+
+/// A column of CSV without its header.
+fn column(csv: &str, index: usize) -> Vec<&str> {
+    let lines = csv.lines().skip(1);
+    lines
+        .map(|line| line.split(';').nth(index).expect(line))
+        .collect()
+}
+
+/// The lines of deliveries that the README shows are the first of its command's. Each month has the metered kWh of its reading, and is
+/// balanced by its energy in `sums`.
+#[test]
+fn the_deliveries_of_the_readme_are_those_of_its_readings() {
+    let commands = pasted();
+    let of = |name: &str| {
+        commands
+            .iter()
+            .find(|line| line.contains(name))
+            .expect(name)
+    };
+    let deliveries = paste(of(" deliveries "));
+    let first = deliveries.split_inclusive('\n').take(3);
+    let shown: String = first.map(|line| format!("    {line}")).collect();
+    assert!(stored_text("README.md").contains(&format!("\n{shown}\n")));
+
+    let sums = paste(&of(" sums ").replace(" --unit kWh", ""));
+    assert_eq!(column(&deliveries, 2), column(&sums, 3));
+    let readings = stored_text("examples/readings_2000.csv");
+    let readings = readings.split_once("date;kWh\n").expect("a header").1;
+    let metered: Vec<String> = readings
+        .lines()
+        .map(|line| format!("{}000", &line[11..]))
+        .collect();
+    assert_eq!(column(&deliveries, 1)[..12], metered);
 }
 
 // The files.
