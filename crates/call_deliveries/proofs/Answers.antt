@@ -10,13 +10,12 @@ use Rattle.refusal.specs.declared.Refusal.{Refusal}
 use Rattle.refusal.specs.declared.Refusal.the-variants.{BadUse}
 use Rattle.refusal.specs.declared.Verdict.{Verdict}
 use Rattle.refusal.specs.declared.Verdict.the-variants.{Pass, Refused}
-use Rattle.refusal.specs.Questions.{reported, _then_, lentAfter}
+use Rattle.refusal.specs.Questions.{reported, _then_}
 use Rattle.refusal.proofs.Questions.{IsRefused, on-refused, refused-second, passed-second, then-first, then-next, ask-passed, room-passed}
 use Rattle.calendar_holidays.specs.Holidays.{holidaysQuestion}
 use Rattle.calendar_period.specs.Period.{periodCheck}
 use Rattle.calendar_period.proofs.Period.{Period, period-passed}
 use Rattle.calendar_reading_periods.specs.ReadingPeriods.{readingsQuestion, firstDatesQuestion, ReadingPeriod, readingPeriods}
-use Rattle.calendar_reading_periods.specs.Inside.{PeriodsFrom}
 use Rattle.calendar_reading_periods.proofs.ReadingPeriods.{Counted, counted, all-dates, begins}
 use Rattle.carry.specs.Carry.{largestUse}
 use Rattle.call_request.specs.Request.{Request, basisOf, series, useQuestion, aheadOfPeriod}

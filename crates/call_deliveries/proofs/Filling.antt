@@ -2,17 +2,14 @@
 -- turn and end. Assumes nothing.
 use mathlib.Core.Path.{_≡_, refl, _∙_, ap}
 use mathlib.Core.List.{List, [], _∷_, _++_}
-use Prim.Native.Nat.{ℕ, zero, suc, _+_, _^_, _≤_, _<_}
+use Prim.Native.Nat.{ℕ, suc, _+_, _^_, _≤_, _<_}
 use native.Mathlib.Omega.{arith}
 use lib.IntN.{ℤ}
 use lib.ListN.{length, getD, drop, set, drop-of-length-le}
 use Rattle.lists.specs.Lists.{sum}
 use Rattle.lists.proofs.Parts.{drop-next}
 use Rattle.lists.proofs.Stores.{stored-first, Storing, nothing-stored, one-stored, all-stored}
-use Rattle.calendar_dates.specs.Dates.{dateOf}
-use Rattle.calendar_period.specs.Period.{daysOf}
-use Rattle.calendar_period.specs.Inside.{periodDays}
-use Rattle.calendar_reading_periods.specs.ReadingPeriods.{ReadingPeriod, readingPeriods}
+use Rattle.calendar_reading_periods.specs.ReadingPeriods.{readingPeriods}
 use Rattle.calendar_reading_periods.specs.Inside.{PeriodsFrom}
 use Rattle.calendar_reading_periods.proofs.ReadingPeriods.{period-real, next-from}
 use Rattle.carry.specs.declared.Totals.{Totals}

@@ -1,12 +1,13 @@
 -- What each way through expanding comes to, over a request. Assumes nothing.
 use mathlib.Core.Path.{_≡_, _∙_, ap}
 use mathlib.Core.List.{List}
-use Prim.Native.Nat.{ℕ}
+use Prim.Native.Nat.{ℕ, _≤_}
 use lib.ListN.{length}
 use Rattle.refusal.specs.declared.Refusal.{Refusal}
+use Rattle.refusal.specs.declared.Verdict.{Verdict}
 use Rattle.refusal.specs.declared.Verdict.the-variants.{Pass, Refused}
 use Rattle.refusal.specs.Questions.{roomQuestion}
-use Rattle.refusal.proofs.Questions.{then-pass, refused-first, then-first}
+use Rattle.refusal.proofs.Questions.{then-pass, refused-first, room-enough, then-first}
 use Rattle.carry.specs.declared.Totals.{Totals}
 use Rattle.carry.specs.Energy.{powers}
 use Rattle.carry.proofs.Carry.{length-figures}
@@ -14,8 +15,8 @@ use Rattle.series.specs.Inside.{Filled}
 use Rattle.call_request.specs.Request.{Request, quarters, series, requestCheck}
 use Rattle.call_request.proofs.Request.{Sound, sound}
 use Rattle.call_expansion.specs.declared.Expansion.{Expansion}
-use Rattle.call_expansion.specs.Answered.{reported}
-use Rattle.call_expand.specs.Expanding.{expandCheck, totals, expansion, outputAfter, Expands}
+use Rattle.call_expansion.specs.Answered.{answered, reported}
+use Rattle.call_expand.specs.Expanding.{expandCheck, totals, expansion, outputAfter, lent, Expands}
 
 module _ (q : Request) where
   refused : {r : Refusal} → expandCheck q ≡ Refused r → Expands q (Expansion.Refused r) (q .output)
@@ -47,3 +48,10 @@ module _ (q : Request) where
 pub request-sound : (q : Request) → expandCheck q ≡ Pass → Sound q
 unfolding expandCheck
 request-sound q h = sound q (then-first (requestCheck q) _ h)
+
+-- what is answered where the questions before 12 pass and the output lent is long enough
+pub expanded-in : (q : Request) (output : List ℕ) → requestCheck q ≡ Pass → length (series q) ≤ length output → expansion (lent q output) ≡ Expansion.Expanded (totals q)
+unfolding expansion expandCheck series
+expanded-in q output p room =
+    let pass : expandCheck (lent q output) ≡ Pass = then-pass _ p ∙ room-enough _ _ room in
+    ap (λ (v : Verdict). answered v (totals q)) pass

@@ -10,7 +10,7 @@ use Rattle.refusal.specs.Questions.{_then_, roomQuestion, lentAfter}
 use Rattle.carry.specs.declared.Totals.{Totals}
 use Rattle.carry.specs.Carry.{lastCarry}
 use Rattle.carry.specs.Energy.{powers}
-use Rattle.call_request.specs.Request.{Request, quarters, series, requestCheck}
+use Rattle.call_request.specs.Request.{Request, request, quarters, series, requestCheck}
 use Rattle.call_expansion.specs.declared.Expansion.{Expansion}
 use Rattle.call_expansion.specs.declared.ExpansionReport.{ExpansionReport}
 use Rattle.call_expansion.specs.Answered.{answered, reported}
@@ -34,6 +34,10 @@ expansion q = answered (expandCheck q) (totals q)
 -- the lent output after the call
 unfoldable pub outputAfter : Request → List ℕ
 outputAfter q = lentAfter (expandCheck q) (series q) (q .output)
+
+-- the same request, lent another output
+abbrev pub lent : Request → List ℕ → Request
+lent q output = request (q .file) (q .group) (q .first) (q .last) (q .holidays) (q .yearly) (q .carry) output
 
 -- the contract of expanding: what it answered, also in document 01's numbers, and its output afterwards
 pub record Expands (q : Request) (answer : Expansion) (after : List ℕ) : Type 0 where

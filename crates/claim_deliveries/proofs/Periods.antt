@@ -5,16 +5,12 @@ use mathlib.Core.List.{List, [], _∷_, _++_, map, append-nil, map-append}
 use Prim.Native.Nat.{ℕ, _+_, _≤_, _<_}
 use native.Mathlib.Omega.{arith}
 use lib.ListN.{length, getD}
-use Rattle.refusal.specs.declared.Verdict.{Verdict}
-use Rattle.refusal.specs.declared.Verdict.the-variants.{Pass}
-use Rattle.refusal.specs.Questions.{roomQuestion}
-use Rattle.refusal.proofs.Questions.{then-pass, room-enough}
-use Rattle.calendar_dates.specs.Dates.{dateOf, dayNumber, nextDay}
+use Rattle.calendar_dates.specs.Dates.{dateOf, dayNumber}
 use Rattle.calendar_period.specs.Period.{daysOf}
 use Rattle.calendar_reading_periods.specs.ReadingPeriods.{ReadingPeriod, endOf, readingPeriods}
 use Rattle.calendar_reading_periods.specs.Inside.{FirstDates}
-use Rattle.calendar_reading_periods.proofs.ReadingPeriods.{Ends, ends, next-begins, day-not-after}
-use Rattle.carry.specs.Carry.{largestCarry, figures, lastCarry}
+use Rattle.calendar_reading_periods.proofs.ReadingPeriods.{ends, next-begins, day-not-after}
+use Rattle.carry.specs.Carry.{largestCarry, figures}
 use Rattle.carry.specs.Energy.{Quarter, powers}
 use Rattle.carry.proofs.Carry.{figures-append, carry-small}
 use Rattle.day_powers.specs.DayQuarters.{dayQuarters}
@@ -22,17 +18,14 @@ use Rattle.series.specs.Series.{quartersOfDays}
 use Rattle.series_laws.proofs.Adjoining.{two-periods}
 use Rattle.call_request.specs.Request.{Request, basisOf, quarters, series}
 use Rattle.call_request.proofs.Request.{Sound, passes}
-use Rattle.call_expansion.specs.Answered.{answered}
-use Rattle.call_expand.specs.Expanding.{expandCheck, totals, expansion}
+use Rattle.call_expand.specs.Expanding.{totals}
+use Rattle.call_expand.proofs.Expanding.{expanded-in}
 use Rattle.call_deliveries.specs.Deliveries.{during, carriedThrough}
-use Rattle.claim_deliveries.specs.Settled.{lent, IsExpanded, Adjacent, HandedOn, joinedSeries}
+use Rattle.claim_deliveries.specs.Settled.{IsExpanded, Adjacent, HandedOn, joinedSeries}
 
 -- a request whose questions pass is expanded
 pub expanded : (r : Request) → Sound r → IsExpanded r
-unfolding expansion expandCheck series
-expanded r s out room =
-    let all : expandCheck (lent r out) ≡ Pass = then-pass (roomQuestion (length (series r)) (length out)) (passes r s) ∙ room-enough _ _ room in
-    ap (λ (v : Verdict). answered v (totals r)) all
+expanded r s out = expanded-in r out (passes r s)
 
 module _ (q : Request) (whole : Sound q) where
   -- the requests for the periods of some first dates

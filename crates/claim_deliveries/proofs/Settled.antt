@@ -1,9 +1,9 @@
 -- The parts put together. Assumes nothing.
 use mathlib.Core.Path.{_≡_, sym, _∙_, ap}
-use mathlib.Core.List.{List, map}
+use mathlib.Core.List.{List}
 use Prim.Native.Nat.{ℕ, _*_}
 use native.Mathlib.Omega.{arith}
-use lib.IntN.{ℤ, pos, _-ℤ_}
+use lib.IntN.{pos, _-ℤ_}
 use lib.ListN.{length, length-map}
 use Rattle.lists.specs.Lists.{sum}
 use Rattle.refusal.specs.declared.Verdict.the-variants.{Pass}

@@ -8,15 +8,12 @@ use Rattle.lists.specs.Lists.{sum}
 use Rattle.refusal.specs.declared.Verdict.the-variants.{Pass}
 use Rattle.calendar_dates.specs.declared.Date.{Date}
 use Rattle.calendar_dates.specs.Dates.{dateOf, nextDay}
-use Rattle.call_request.specs.Request.{Request, request, series}
+use Rattle.call_request.specs.Request.{Request, series}
 use Rattle.call_expansion.specs.declared.Expansion.the-variants.{Expanded}
-use Rattle.call_expand.specs.Expanding.{totals, expansion}
+use Rattle.call_expand.specs.Expanding.{totals, expansion, lent}
 use Rattle.call_deliveries.specs.Deliveries.{Deliveries, wholeSpan, balancedPeriods, difference, differences, deliveriesCheck}
 
 -- expanding, lent an output that is long enough, accepts a request and answers its totals
-abbrev pub lent : Request → List ℕ → Request
-lent r out = request (r .file) (r .group) (r .first) (r .last) (r .holidays) (r .yearly) (r .carry) out
-
 abbrev pub IsExpanded : Request → Type 0
 IsExpanded r = (out : List ℕ) → length (series r) ≤ length out → expansion (lent r out) ≡ Expanded (totals r)
 

@@ -3,7 +3,7 @@
 use mathlib.Core.Path.{_≡_, sym, _∙_, ap}
 use mathlib.Core.Bool.{true}
 use mathlib.Core.List.{List, [], _∷_, _++_, map-append, append-nil}
-use Prim.Native.Nat.{ℕ, suc, _+_, _-_, _≤_, _<_}
+use Prim.Native.Nat.{ℕ, suc, _+_, _-_, _<_}
 use native.Mathlib.Omega.{arith}
 use lib.ListN.{length, take, drop}
 use lib.Seq.{drop-append-seam}
@@ -11,7 +11,6 @@ use Rattle.lists.specs.Lists.{sum}
 use Rattle.refusal.specs.declared.Refusal.{Refusal}
 use Rattle.refusal.specs.declared.Verdict.the-variants.{Pass, Refused}
 use Rattle.refusal.specs.Questions.{_then_, roomQuestion}
-use Rattle.refusal.proofs.Questions.{then-pass, room-enough}
 use Rattle.calendar_dates.specs.declared.Date.{Date}
 use Rattle.calendar_dates.specs.Dates.{dateOf, numberOf, isDate, dayNumber, daysLater}
 use Rattle.calendar_period.specs.Period.{daysOf}
@@ -27,24 +26,18 @@ use Rattle.series.proofs.Series.{quarters-add}
 use Rattle.call_request.specs.Request.{Request, daysIn, basisOf, quarters, series, requestCheck}
 use Rattle.call_request.proofs.Request.{Sound, sound, passes, series-length}
 use Rattle.call_expansion.specs.declared.Expansion.{Expansion}
-use Rattle.call_expansion.specs.declared.Expansion.the-variants.{Expanded}
 use Rattle.call_expansion.specs.Answered.{answered}
-use Rattle.call_expand.specs.Expanding.{expandCheck, totals, expansion}
+use Rattle.call_expand.specs.Expanding.{expandCheck, totals, expansion, lent}
+use Rattle.call_expand.proofs.Expanding.{expanded-in}
 use Rattle.program_lines.specs.Lines.{Row, rowOf}
 use Rattle.program_listing.specs.Listing.{dayRow, rows}
 use Rattle.program_listing.proofs.Listing.{length-rows}
 use Rattle.program_answer.specs.Accepted.{rowsOf}
-use Rattle.program_laws.specs.Lines.{lent, dateOfDay, carryAfterDays, onDay, DayAsExpanded, AsExpanded, LinesAsExpanded}
+use Rattle.program_laws.specs.Lines.{dateOfDay, carryAfterDays, onDay, DayAsExpanded, AsExpanded, LinesAsExpanded}
 use Rattle.program_laws.specs.Rows.{RowsAddUp, RowsJoin}
 use Rattle.program_laws.proofs.Rows.{rows-add-up, rows-join}
 
 module _ (q : Request) (output : List ℕ) where
-  answer : requestCheck q ≡ Pass → length (series q) ≤ length output → expansion (lent q output) ≡ Expanded (totals q)
-  unfolding expansion expandCheck series
-  answer p room =
-      let pass : expandCheck (lent q output) ≡ Pass = then-pass _ p ∙ room-enough _ _ room in
-      ap (λ v. answered v (totals (lent q output))) pass
-
   refusal : (r : Refusal) → requestCheck q ≡ Refused r → expansion (lent q output) ≡ Expansion.Refused r
   unfolding expansion expandCheck _then_
   refusal r h = ap (λ v. answered (v then roomQuestion (length (series (lent q output))) (length output)) (totals (lent q output))) h
@@ -127,7 +120,7 @@ module _ (q : Request) (k : ℕ) (output : List ℕ) (passed : requestCheck q �
       ∙ next-carry (basisOf q) (q .yearly) k (dateOf (q .first)) (q .carry)
 
   day-as-expanded : DayAsExpanded q k output
-  day-as-expanded = record { row = day-row; answer = λ room. answer (onDay q k output) output (passes (onDay q k output) day-sound) room; carry = day-carry }
+  day-as-expanded = record { row = day-row; answer = λ room. expanded-in (onDay q k output) output (passes (onDay q k output) day-sound) room; carry = day-carry }
 
 module _ (q : Request) where
   one-day : daysIn q ≡ 1 → rowsOf q ≡ rowOf (dateOf (q .first)) (totals q .count) (totals q .total) ∷ []
@@ -142,7 +135,7 @@ module _ (q : Request) where
         days = length-rows (basisOf q) (q .yearly) (daysIn q) (dateOf (q .first)) (q .carry);
         counts = counts ∙ sym (series-length q);
         wattHours = energy;
-        whole = answer q;
+        whole = expanded-in q;
         oneDay = one-day;
         day = day-as-expanded q;
         refused = refusal q;

@@ -15,14 +15,10 @@ use Rattle.series.specs.Series.{quartersOfDays}
 use Rattle.call_request.specs.Request.{Request, request, daysIn, basisOf, series, requestCheck}
 use Rattle.call_expansion.specs.declared.Expansion.{Expansion}
 use Rattle.call_expansion.specs.declared.Expansion.the-variants.{Expanded}
-use Rattle.call_expand.specs.Expanding.{totals, expansion}
+use Rattle.call_expand.specs.Expanding.{totals, expansion, lent}
 use Rattle.program_lines.specs.Lines.{rowOf}
 use Rattle.program_answer.specs.Accepted.{rowsOf, pageLength}
 use Rattle.program_text.specs.Printed.{printed}
-
--- the same request with an output of its own: an input's request has none
-abbrev pub lent : Request → List ℕ → Request
-lent q output = request (q .file) (q .group) (q .first) (q .last) (q .holidays) (q .yearly) (q .carry) output
 
 -- the date of a request's day k, from 0
 abbrev pub dateOfDay : Request → ℕ → Date

@@ -1,5 +1,4 @@
 -- `calendar_reading_periods::period_at` meets its contract: the days up to the day after are the period's. Assumes nothing.
-use native.Mathlib.Omega.{arith}
 use borrow.Author.Needs.{needs}
 use Rattle.calendar_reading_periods.proofs.ReadingPeriods.{start-real, days-left, period-is}
 use Rattle.calendar_reading_periods.proofs.period_at.Statement.{statement}
