@@ -98,10 +98,12 @@ pub fn measure(inputs: &Inputs) -> Result<(), String> {
     let (mut whole, mut call, mut writing) = (Vec::new(), Vec::new(), Vec::new());
     for _ in 0..RUNS {
         let start = Instant::now();
-        let status = folder.command(request.yearly).status().map_err(failed)?;
+        // It warns of the list, which is made for the measuring: what it says is shown where it fails.
+        let output = folder.command(request.yearly).output().map_err(failed)?;
         whole.push(microseconds(start));
-        if !status.success() {
-            return Err(format!("dusterteal: {status}"));
+        if !output.status.success() {
+            let said = String::from_utf8_lossy(&output.stderr);
+            return Err(format!("dusterteal: {}: {said}", output.status));
         }
         let bytes = fs::read(folder.path("series.csv")).map_err(failed)?;
         let start = Instant::now();
