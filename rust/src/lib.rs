@@ -146,7 +146,7 @@ pub struct Deliveries<'a> {
     /// The first date of each reading period, 1 to [`MOST_PERIODS`] of them: the first is the span's, each is later than the one
     /// before. A period ends the day before the next one begins, the last with the span.
     pub starts: &'a [u32],
-    /// The metered kWh of each period.
+    /// The metered kWh of each period, as many as [`starts`](Self::starts).
     pub metered: &'a [u32],
     /// Strictly rising dates, at most 400.
     pub holidays: &'a [u32],
@@ -390,12 +390,12 @@ pub fn holidays(year: u32, regional: &[RegionalDay], list: &mut [u32]) -> Result
 }
 
 /// Writes the over and under deliveries of a customer into the first entries of `out`, one for each reading period: its metered energy
-/// minus its balanced energy in Wh, positive where the customer drew more (equation 4.8 of source document 001). The balanced energy
-/// is that of the series of [`expand`] for the whole span, begun with carry 0, so that the differences add up to 1,000 times all metered
-/// kWh less that series' total. Questions 1 to 8, 17, 18, 9, 10 and 12, in this order. An output of [`MOST_PERIODS`] entries is always
-/// long enough.
+/// minus its balanced energy in Wh, positive where the customer drew more (equation 4.8 of source document 001). A period's balanced
+/// energy is the sum of its figures in the series that [`expand`] makes for the whole span, begun with carry 0, so that the differences
+/// add up to 1,000 times all metered kWh less that series' total. Questions 1 to 8, 17, 18, 9, 10 and 12 (place: the entries needed,
+/// one for each period), in this order. An output of [`MOST_PERIODS`] entries is always long enough.
 ///
-/// Three days of a flat profile, which are balanced by 2,402, 2,402 and 2,303 Wh, with 2 kWh metered on each:
+/// Three days of a flat profile, which are balanced by 2,402, 2,402 and 2,303 Wh, with 2, 3 and 1 kWh metered:
 ///
 /// ```
 /// let mut file = [0; slp::file_length(1)];
@@ -406,13 +406,13 @@ pub fn holidays(year: u32, regional: &[RegionalDay], list: &mut [u32]) -> Result
 ///     first: 20000324,
 ///     last: 20000326,
 ///     starts: &[20000324, 20000325, 20000326],
-///     metered: &[2, 2, 2],
+///     metered: &[2, 3, 1],
 ///     holidays: &[],
 ///     yearly: 1000,
 /// };
 /// let mut out = [0; 3];
 /// slp::deliveries(&days, &mut out)?;
-/// assert_eq!(out, [-402, -402, -303]);
+/// assert_eq!(out, [-402, 598, -1303]);
 ///
 /// let late = slp::Deliveries { starts: &[20000324, 20000325, 20000327], ..days };
 /// let refusal = slp::deliveries(&late, &mut out).unwrap_err();

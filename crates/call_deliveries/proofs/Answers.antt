@@ -24,8 +24,8 @@ use Rattle.call_open.specs.declared.Opening.{Opening}
 use Rattle.call_open.specs.Inside.{opening}
 use Rattle.call_open.proofs.Given.{answers-request, OpenedFor, opened-for}
 use Rattle.call_expand.specs.Expanding.{totals}
-use Rattle.call_deliveries.specs.Deliveries.{Deliveries, wholeSpan, during, carriedThrough, difference, differencesOf, differences, deliveriesCheck, outputAfter, Delivers}
-use Rattle.call_deliveries.specs.Inside.{behindSpan, differencesFrom, Readings}
+use Rattle.call_deliveries.specs.Deliveries.{Deliveries, wholeSpan, ofPeriod, carriedThrough, difference, differencesOf, differences, deliveriesCheck, outputAfter, Delivers, behindSpan}
+use Rattle.call_deliveries.specs.Inside.{differencesFrom, Readings}
 use Rattle.call_deliveries.proofs.Filling.{length-differences}
 
 -- the differences of a request's periods
@@ -34,7 +34,7 @@ pub same-differences : (q : Request) (metered : List ℕ) (periods : List Readin
 unfolding differencesFrom differencesOf carriedThrough series
 same-differences q [] periods carry = refl
 same-differences q (kWh ∷ metered) [] carry = refl
-same-differences q (kWh ∷ metered) (p ∷ periods) carry = ap (λ (zs : List ℤ). difference kWh (totals (during q p carry) .total) ∷ zs) (same-differences q metered periods (totals (during q p carry) .carry))
+same-differences q (kWh ∷ metered) (p ∷ periods) carry = ap (λ (zs : List ℤ). difference kWh (totals (ofPeriod q p carry) .total) ∷ zs) (same-differences q metered periods (totals (ofPeriod q p carry) .carry))
 
 -- what is known where every question passed
 pub record Sound (d : Deliveries) : Type 0 where

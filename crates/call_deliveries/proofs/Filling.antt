@@ -19,7 +19,7 @@ use Rattle.day_powers.specs.DayQuarters.{Basis}
 use Rattle.series.proofs.DayByDay.{whole-small}
 use Rattle.series_totals.specs.Inside.{comesTo}
 use Rattle.call_deliveries.specs.Deliveries.{difference}
-use Rattle.call_deliveries.specs.Inside.{periodAt, powersIn, differencesFrom, Known, Readings}
+use Rattle.call_deliveries.specs.Inside.{periodAt, powersIn, differencesFrom, Checked, Readings}
 
 module _ (b : Basis) (yearly : ℕ) where
   -- as many differences as metered values
@@ -54,7 +54,7 @@ pub record Left (b : Basis) (yearly last : ℕ) (starts metered : List ℕ) (ent
   pub periods : at < length starts → PeriodsFrom last starts at
   pub carrySmall : carry ≤ largestCarry
 
-module _ {b : Basis} {yearly last : ℕ} {starts metered : List ℕ} {entry : List ℤ} (known : Known (b .values) (b .holidays) yearly) (readings : Readings last starts metered entry) where
+module _ {b : Basis} {yearly last : ℕ} {starts metered : List ℕ} {entry : List ℤ} (known : Checked (b .values) (b .holidays) yearly) (readings : Readings last starts metered entry) where
   pub begin : Left b yearly last starts metered entry entry 0 0
   begin = record { stored = nothing-stored; most = omega arith; periods = λ h. readings .periods; carrySmall = omega arith }
 

@@ -1,5 +1,5 @@
--- Document 02, (c), "Over and under deliveries": what the call is given, what is asked of it, and the differences that it leaves in the
--- lent output, accepted and refused.
+-- Document 02, (c), "Over and under deliveries": what the call is given, what is asked of it, and what it leaves in the lent output,
+-- accepted and refused.
 use mathlib.Core.Path.{_≡_}
 use mathlib.Core.List.{List, [], _∷_}
 use Prim.Native.Nat.{ℕ, _*_}
@@ -46,17 +46,17 @@ abbrev pub wholeSpan : Deliveries → Request
 wholeSpan d = request (d .file) (d .group) (d .first) (d .last) (d .holidays) (d .yearly) 0 []
 
 -- the request for one period of a whole, begun with a carry
-abbrev pub during : Request → ReadingPeriod → ℕ → Request
-during whole period carry =
+abbrev pub ofPeriod : Request → ReadingPeriod → ℕ → Request
+ofPeriod whole period carry =
     request (whole .file) (whole .group) (period .first) (period .last) (whole .holidays) (whole .yearly) carry []
 
 -- "the series with the carry running through": each period is begun with the carry that the one before it left
 unfoldable pub carriedThrough : Request → List ReadingPeriod → ℕ → List Request
 carriedThrough whole [] carry = []
 carriedThrough whole (period ∷ periods) carry =
-    during whole period carry ∷ carriedThrough whole periods (totals (during whole period carry) .carry)
+    ofPeriod whole period carry ∷ carriedThrough whole periods (totals (ofPeriod whole period carry) .carry)
 
--- "from 0"
+-- the requests by whose series the periods are balanced: "from 0"
 abbrev pub balancedPeriods : Deliveries → List Request
 balancedPeriods d = carriedThrough (wholeSpan d) (readingPeriods (d .last) (d .starts)) 0
 
@@ -73,15 +73,18 @@ differencesOf (kWh ∷ metered) (period ∷ periods) = difference kWh (totals pe
 abbrev pub differences : Deliveries → List ℤ
 differences d = differencesOf (d .metered) (balancedPeriods d)
 
--- "Expanding's questions but 11, with 12 counting differences; after 8 for the whole span": 17 and 18
+-- "after 8 for the whole span": 17 and 18, then 9, 10 and 12, "with 12 counting differences"; of `metered` and `room` entries
+abbrev pub behindSpan : ℕ → ℕ → List ℕ → ℕ → List ℕ → ℕ → ℕ → Verdict
+behindSpan first last starts metered holidays yearly room =
+    readingsQuestion (length starts) metered then firstDatesQuestion first last starts then holidaysQuestion holidays
+    then useQuestion yearly
+    then roomQuestion (length starts) room
+
+-- "Expanding's questions but 11": 1 to 8 before them
 unfoldable pub deliveriesCheck : Deliveries → Verdict
 deliveriesCheck d =
     aheadOfPeriod (d .file) (d .group) then periodCheck (d .first) (d .last)
-    then readingsQuestion (length (d .starts)) (length (d .metered))
-    then firstDatesQuestion (d .first) (d .last) (d .starts)
-    then holidaysQuestion (d .holidays)
-    then useQuestion (d .yearly)
-    then roomQuestion (length (d .starts)) (length (d .output))
+    then behindSpan (d .first) (d .last) (d .starts) (length (d .metered)) (d .holidays) (d .yearly) (length (d .output))
 
 -- the lent output after the call
 unfoldable pub outputAfter : Deliveries → List ℤ

@@ -1,32 +1,22 @@
--- What the inner functions ask and promise. No definitions of document 02.
+-- What the inner functions ask and promise. No definition of document 02.
 use mathlib.Core.Path.{_≡_}
 use mathlib.Core.List.{List, [], _∷_}
 use Prim.Native.Nat.{ℕ, _+_, _≤_}
 use lib.IntN.{ℤ}
 use lib.ListN.{length, getD, drop}
 use Rattle.lists.specs.Lists.{sum}
-use Rattle.refusal.specs.declared.Verdict.{Verdict}
 use Rattle.refusal.specs.declared.Verdict.the-variants.{Pass}
-use Rattle.refusal.specs.Questions.{_then_, roomQuestion}
 use Rattle.calendar_dates.specs.Dates.{dateOf}
 use Rattle.calendar_holidays.specs.Holidays.{holidaysQuestion}
 use Rattle.calendar_period.specs.Period.{daysOf}
-use Rattle.calendar_reading_periods.specs.ReadingPeriods.{readingsQuestion, firstDatesQuestion, ReadingPeriod, endOf}
+use Rattle.calendar_reading_periods.specs.ReadingPeriods.{ReadingPeriod, endOf}
 use Rattle.calendar_reading_periods.specs.Inside.{PeriodsFrom}
 use Rattle.carry.specs.Carry.{largestUse, figures, lastCarry}
 use Rattle.carry.specs.Energy.{powers}
 use Rattle.day_powers.specs.DayQuarters.{Basis, dayQuarters}
 use Rattle.series.specs.Series.{quartersOfDays}
 use Rattle.series.specs.Inside.{GroupValues}
-use Rattle.call_request.specs.Request.{useQuestion}
 use Rattle.call_deliveries.specs.Deliveries.{difference}
-
--- what is asked behind the whole span
-abbrev pub behindSpan : ℕ → ℕ → List ℕ → ℕ → List ℕ → ℕ → ℕ → Verdict
-behindSpan first last starts values holidays yearly room =
-    readingsQuestion (length starts) values then firstDatesQuestion first last starts then holidaysQuestion holidays
-    then useQuestion yearly
-    then roomQuestion (length starts) room
 
 -- the period at an index, and the powers of a period
 abbrev pub periodAt : ℕ → List ℕ → ℕ → ReadingPeriod
@@ -44,7 +34,7 @@ differencesFrom b yearly (kWh ∷ metered) (p ∷ periods) carry =
     ∷ differencesFrom b yearly metered periods (lastCarry yearly (powersIn b p) carry)
 
 -- a group's values, a list in order and a yearly use in range
-pub record Known (values holidays : List ℕ) (yearly : ℕ) : Type 0 where
+pub record Checked (values holidays : List ℕ) (yearly : ℕ) : Type 0 where
   pub sound : GroupValues values
   pub inOrder : holidaysQuestion holidays ≡ Pass
   pub yearlySmall : yearly ≤ largestUse

@@ -12,8 +12,8 @@ ghost use Rattle.calendar_reading_periods.specs.Inside.{PeriodsFrom};
 ghost use Rattle.carry.specs.Carry.{largestCarry};
 ghost use Rattle.day_powers.specs.DayQuarters.{basis};
 ghost use Rattle.series_totals.specs.Inside.{comesTo};
-ghost use Rattle.call_deliveries.specs.Deliveries.{deliveries, difference, Delivers};
-ghost use Rattle.call_deliveries.specs.Inside.{behindSpan, periodAt, powersIn, differencesFrom, Known, Readings};
+ghost use Rattle.call_deliveries.specs.Deliveries.{deliveries, difference, behindSpan, Delivers};
+ghost use Rattle.call_deliveries.specs.Inside.{periodAt, powersIn, differencesFrom, Checked, Readings};
 
 // What is asked behind the whole span: questions 17, 18, 9, 10 and 12.
 fn behind_span(
@@ -57,7 +57,7 @@ fn total_period(
     yearly: u32,
     carry: u32,
 ) -> Totals
-    requires { ⌜ Known (now values) (now holidays) yearly ⌝ }
+    requires { ⌜ Checked (now values) (now holidays) yearly ⌝ }
     requires { ⌜ PeriodsFrom last (now starts) index ⌝ }
     requires { ⌜ carry ≤ largestCarry ⌝ }
     ensures { λ r. ⌜
@@ -68,8 +68,8 @@ fn total_period(
     series_totals::total_days(values, group, first, period.days, holidays, yearly, carry)
 }
 
-// The metered energy, in kWh, less the balanced one, in Wh.
-fn difference_in(metered: u32, balanced: u64) -> i64
+// Metered kWh less balanced Wh, in Wh.
+fn difference_of(metered: u32, balanced: u64) -> i64
     requires { ⌜ balanced < 2 ^ 63 ⌝ }
     ensures { λ r. ⌜ r ≡ difference metered balanced ⌝ }
 {
@@ -88,7 +88,7 @@ fn fill(
     yearly: u32,
     out: &mut [i64],
 )
-    requires { ⌜ Known (now values) (now holidays) yearly ⌝ }
+    requires { ⌜ Checked (now values) (now holidays) yearly ⌝ }
     requires { ⌜ Readings last (now starts) (now metered) (now out) ⌝ }
     ensures { λ r. ⌜
         now (out .exit)
@@ -100,7 +100,7 @@ fn fill(
     let mut at: usize = 0;
     while at < starts.len() {
         let balanced = total_period(values, group, starts, at, last, holidays, yearly, carry);
-        out[at] = difference_in(metered[at], balanced.total);
+        out[at] = difference_of(metered[at], balanced.total);
         carry = balanced.carry;
         at += 1;
     }

@@ -1,3 +1,4 @@
 pub mod Sums
 pub mod Periods
 pub mod Settled
+pub mod WorkedPeriods

@@ -20,7 +20,7 @@ use Rattle.call_request.specs.Request.{Request, basisOf, quarters, series}
 use Rattle.call_request.proofs.Request.{Sound, passes}
 use Rattle.call_expand.specs.Expanding.{totals}
 use Rattle.call_expand.proofs.Expanding.{expanded-in}
-use Rattle.call_deliveries.specs.Deliveries.{during, carriedThrough}
+use Rattle.call_deliveries.specs.Deliveries.{ofPeriod, carriedThrough}
 use Rattle.claim_deliveries.specs.Settled.{IsExpanded, Adjacent, HandedOn, joinedSeries}
 
 -- a request whose questions pass is expanded
@@ -53,7 +53,7 @@ module _ (q : Request) (whole : Sound q) where
   period start rest = record { first = start; last = endOf (q .last) start rest }
 
   period-sound : (start : ℕ) (rest : List ℕ) (carry : ℕ) → FirstDates (q .last) (start ∷ rest) → daysOf (dateOf start) (dateOf (q .last)) ≤ 1_461 → carry ≤ largestCarry →
-      Sound (during q (period start rest) carry)
+      Sound (ofPeriod q (period start rest) carry)
   unfolding daysOf
   period-sound start rest carry f few small =
       let end = ends (q .last) start rest (whole .period .dates-last) f in
@@ -76,7 +76,7 @@ module _ (q : Request) (whole : Sound q) where
         joins = append-nil _;
       }
   from start (next ∷ rest) carry f few small =
-      let r = during q (period start (next ∷ rest)) carry in
+      let r = ofPeriod q (period start (next ∷ rest)) carry in
       let left = totals r .carry in
       let end = ends (q .last) start (next ∷ rest) (whole .period .dates-last) f in
       let begins = next-begins (q .last) start next rest f in

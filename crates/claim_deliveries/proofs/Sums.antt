@@ -1,19 +1,19 @@
 -- Sums of differences, and their sign. Assumes nothing.
 use mathlib.Core.Path.{_≡_, refl, sym, _∙_, ap}
 use mathlib.Core.Bool.{Bool, true, false}
-use mathlib.Core.List.{List, [], _∷_}
-use Prim.Native.Nat.{ℕ, zero, suc, _+_, _-_, _*_, _≤_}
+use mathlib.Core.List.{List, [], _∷_, map}
+use Prim.Native.Nat.{ℕ, zero, suc, _+_, _-_, _*_, _≤_, _<_}
 use native.Mathlib.Omega.{arith}
 use lib.Dec.{ltb}
 use lib.IntN.{ℤ, pos, _+ℤ_, _-ℤ_, negℤ, +ℤ-assoc, +ℤ-comm, negℤ-+ℤ}
-use lib.ListN.{length}
+use lib.ListN.{length, getD}
 use borrow.Author.Tests.{le-ltb, ltb-true, ltb-false}
 use Rattle.lists.specs.Lists.{sum}
 use Rattle.lists.proofs.Sums.{sum-append}
 use Rattle.call_request.specs.Request.{Request, series}
 use Rattle.call_expand.specs.Expanding.{totals}
 use Rattle.call_deliveries.specs.Deliveries.{difference, differencesOf}
-use Rattle.claim_deliveries.specs.Settled.{joinedSeries, sumOf, Signed}
+use Rattle.claim_deliveries.specs.Settled.{joinedSeries, signedSum, Signed}
 
 -- a - b
 more : (a b : ℕ) → b ≤ a → pos a -ℤ pos b ≡ pos (a - b)
@@ -49,8 +49,8 @@ added a b c d =
 
 -- the differences of as many metered values as periods
 pub sum-differences : (metered : List ℕ) (periods : List Request) → length metered ≡ length periods →
-    sumOf (differencesOf metered periods) ≡ pos (1_000 * sum metered) -ℤ pos (sum (joinedSeries periods))
-unfolding sumOf differencesOf joinedSeries sum
+    signedSum (differencesOf metered periods) ≡ pos (1_000 * sum metered) -ℤ pos (sum (joinedSeries periods))
+unfolding signedSum differencesOf joinedSeries sum
 sum-differences [] [] e = refl
 sum-differences [] (r ∷ periods) e = absurd (omega arith)
 sum-differences (kWh ∷ metered) [] e = absurd (omega arith)
@@ -59,3 +59,12 @@ sum-differences (kWh ∷ metered) (r ∷ periods) e =
     ap (λ (z : ℤ). difference kWh (totals r .total) +ℤ z) (sum-differences metered periods (omega arith))
     ∙ added (1_000 * kWh) (totals r .total) (1_000 * sum metered) (sum (joinedSeries periods))
     ∙ rw (kWhs, sum-append (series r) (joinedSeries periods))
+
+-- the difference at an index
+pub each-difference : (metered : List ℕ) (periods : List Request) → length metered ≡ length periods → (i : ℕ) → i < length metered →
+    getD (differencesOf metered periods) i (pos 0) ≡ difference (getD metered i 0) (getD (map (λ r. totals r .total) periods) i 0)
+unfolding differencesOf
+each-difference [] periods e i h = absurd (omega arith)
+each-difference (kWh ∷ metered) [] e i h = absurd (omega arith)
+each-difference (kWh ∷ metered) (r ∷ periods) e zero h = refl
+each-difference (kWh ∷ metered) (r ∷ periods) e (suc i) h = each-difference metered periods (omega arith) i (omega arith)

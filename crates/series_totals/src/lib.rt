@@ -19,7 +19,7 @@ pub struct DayTotals {
     pub totals: Totals,
 }
 
-// Works one day out. `place` is the day's in the list of holidays.
+// Works one day out. `place` is where the day stands, or would stand, in the list of holidays.
 pub fn total_day(
     values: &[u16],
     group: u8,

@@ -10,8 +10,7 @@ use Rattle.file_group.proofs.Group.{values-inside}
 use Rattle.call_request.specs.Request.{aheadOfPeriod}
 use Rattle.call_open.specs.Inside.{opening}
 use Rattle.call_open.proofs.Given.{opened-request, opened-refused, OpenedFor, table-is, group-values}
-use Rattle.call_deliveries.specs.Deliveries.{Deliveries, deliveries, wholeSpan}
-use Rattle.call_deliveries.specs.Inside.{behindSpan}
+use Rattle.call_deliveries.specs.Deliveries.{Deliveries, deliveries, wholeSpan, behindSpan}
 use Rattle.call_deliveries.proofs.Answers.{Sound, all-passed, sound, readings, span-opened, span-refused, behind-refused, delivered}
 use Rattle.call_deliveries.proofs.differences.Statement.{statement}
 use Rattle.call_deliveries.proofs.differences.Tie as tie

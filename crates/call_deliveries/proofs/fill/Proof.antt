@@ -26,14 +26,14 @@ total-period-requires c κs =
     let l = c .before .loop .inv in
     (c .before .before .before .before .before .before .pre .0, (l .periods (omega arith), l .carrySmall))
 
-mul-difference-in : tie.Need-mul-difference-in Inv-loop μ-loop
-mul-difference-in c = search needs
+mul-difference-of : tie.Need-mul-difference-of Inv-loop μ-loop
+mul-difference-of c = search needs
 
-shared-slice-read-difference-in : tie.Need-shared-slice-read-difference-in Inv-loop μ-loop
-shared-slice-read-difference-in c = omega (arith, c .before .before .before .before .before .before .before .before .pre .1 .same)
+shared-slice-read-difference-of : tie.Need-shared-slice-read-difference-of Inv-loop μ-loop
+shared-slice-read-difference-of c = omega (arith, c .before .before .before .before .before .before .before .before .pre .1 .same)
 
-difference-in-requires : tie.Need-difference-in-requires Inv-loop μ-loop
-difference-in-requires c κs =
+difference-of-requires : tie.Need-difference-of-requires Inv-loop μ-loop
+difference-of-requires c κs =
     let l = c .before .before .before .loop in
     let pre = c .before .before .before .before .before .before .before .before .pre in
     total-small (pre .0) (pre .1) (l .inv) (omega arith) (c .before .total-period .ensures)
@@ -58,7 +58,7 @@ loop-again c =
     let l = c .before .before .before .before .loop in
     let pre = c .before .before .before .before .before .before .before .before .before .pre in
     turn (pre .0) (pre .1) (l .inv) (omega arith) (c .before .before .total-period .ensures)
-    (toZ-ofZ (sfits-of (c .difference-in .ok)) ∙ c .difference-in .ensures) refl
+    (toZ-ofZ (sfits-of (c .difference-of .ok)) ∙ c .difference-of .ensures) refl
 
 same-length : tie.Need-same-length Inv-loop μ-loop
 same-length c = c .before .loop .inv .stored .kept
@@ -76,9 +76,9 @@ fill-spec =
     μ-loop
     loop-holds
     total-period-requires
-    mul-difference-in
-    shared-slice-read-difference-in
-    difference-in-requires
+    mul-difference-of
+    shared-slice-read-difference-of
+    difference-of-requires
     mul-t17
     slice-set-from-out
     add-at
