@@ -201,8 +201,8 @@ struct slp_holidays_report slp_holidays(uint32_t year, uint8_t choice, uint32_t 
  * beyond: its metered energy minus its balanced energy in Wh, positive where the customer drew more. The span goes from `first` to
  * `last`, both included, at most 1,461 days. `starts` has the first date of each period, 1 to SLP_MOST_PERIODS of them: the first is
  * `first`, each is later than the one before. A period ends the day before the next one begins, the last with `last`. `metered` has
- * the kWh of each period, as many entries as `starts`. `yearly` is the yearly use in kWh by which the customer is balanced, at most
- * 1,000,000,000. A period's balanced energy is the sum of its figures in the series that slp_expand makes for the whole span, begun
+ * the kWh of each period, as many entries as `starts`. The customer is balanced by the profile of `group` in `file`, with `holidays`
+ * and a yearly use of `yearly` kWh, at most 1,000,000,000. A period's balanced energy is the sum of its figures in the series that slp_expand makes for the whole span, begun
  * with carry 0, so that the differences add up to 1,000 times all metered kWh less that series' total. `holidays` is not NULL, also
  * where the list is empty. Questions 1 to 8, 17, 18, 9, 10 and 12 (place: the entries needed, one for each period;
  * SLP_MOST_PERIODS is always enough), in this order.

@@ -1,7 +1,7 @@
 //! Quarter-hour series from the VDEW load profiles: safe calls of the proved library.
 //!
-//! Every call takes any input and either does its work or is refused by the first question of document 01 that is answered
-//! "no". After a refusal, lent memory holds its old content; after an accepted call, the new entries and beyond them its old
+//! Every call takes any input and either does its work or is refused by the first question of documents 01 and 02 that is
+//! answered "no". After a refusal, lent memory holds its old content; after an accepted call, the new entries and beyond them its old
 //! content.
 //!
 //! A date is a number yyyymmdd. A list of holidays holds strictly rising dates, at most 400. A figure is a quarter hour's energy

@@ -112,7 +112,7 @@ impl RefusalKind {
                 "the reading periods are not 1 to 48, or the metered values are not as many"
             }
             RefusalKind::BadFirstDate => {
-                "the first date of a reading period is not real, outside the span, not later than the one before or not the span's own"
+                "the first date of a reading period is not real, outside the span, not later than the one before or, of the first period, not the span's own"
             }
         }
     }

@@ -356,7 +356,7 @@ fn texts_that_are_no_period_are_named() {
 
 #[test]
 fn texts_that_are_no_date_are_named() {
-    let forms = "2026-03-26 or 26.03.2026";
+    let forms = "write it as 2026-03-26 or 26.03.2026";
     for date in ["2000", "2000-3-26", "26.03.00", "26.03.", "20000326", ""] {
         let what = format!("{date:?} is no date: {forms}");
         let explain = ["explain", "G0", date, "00:15", "1000"];

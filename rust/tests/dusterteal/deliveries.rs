@@ -3,15 +3,16 @@ use std::fs;
 
 use crate::expected::{dashed, day_of, expect_text, Source, GROUPS};
 use crate::made::{table, values, FILE};
-use crate::tool::{
-    expect_stopped, file, folder, run, run_with, says, stopped, text, warnings, written,
-};
+use crate::tool::{expect_stopped, file, folder, run, run_with, says, stopped, text, warnings};
 
 /// 01's flat profile, for which a day has 2,402 Wh with 1,000 kWh a year.
 const FLAT: &str = "examples/constant.csv";
 
 /// Three days of March 2000 with 2 kWh each.
 const MARCH: &str = "2000-03-24;2\n2000-03-25;2\n2000-03-26;2\n";
+
+/// What is said of metered energy that is out of proportion to the balanced one.
+const DOUBT: &str = ": look at the dates, the unit, and whether this is the energy of the period";
 
 /// What is asked for, as the command line says it.
 #[derive(Clone, Copy)]
@@ -45,7 +46,8 @@ impl<'a> Asked<'a> {
     fn of(self, readings: impl AsRef<[u8]>, options: &[&str]) -> String {
         let line = [&self.line(), options].concat();
         let outcome = run_with(&line, readings.as_ref());
-        assert_eq!((outcome.status, outcome.said.as_str()), (0, ""), "{line:?}");
+        let doubts = outcome.said.lines().all(|said| said.contains(DOUBT));
+        assert!(outcome.status == 0 && doubts, "{line:?}: {}", outcome.said);
         String::from_utf8(outcome.written).expect("the output is text")
     }
 
@@ -166,7 +168,7 @@ fn the_lines_are_those_of_the_reference() {
             until: &dashed(last),
         };
         let expected = expected(&source, group, yearly, &list, last);
-        expect_text(&written(&asked.line()), &expected, (group, yearly));
+        expect_text(&asked.of("", &[]), &expected, (group, yearly));
     }
 }
 
@@ -219,7 +221,7 @@ fn readings_are_taken_as_spreadsheets_write_them() {
             readings: path,
             ..SOUND
         };
-        assert_eq!(written(&asked.line()), sound, "{readings}");
+        assert_eq!(asked.of("", &[]), sound, "{readings}");
     }
 }
 
@@ -269,15 +271,23 @@ fn what_can_not_be_read_is_named_by_line_and_column() {
         ("2000-03-24 2\n", format!("line 1: 1 field: {a_line}")),
         (
             "2000-03-24;2\n2000-03-25;\n",
-            format!("line 2: 1 field: {a_line}"),
+            "line 2, column 2: the metered kWh are missing; the end of the last period is said by --until".to_owned(),
+        ),
+        (
+            "2000-03-24;2;read\n",
+            format!("line 1: 3 fields: {a_line}; save the first two columns alone"),
+        ),
+        (
+            "von;kWh;Bemerkung\n2000-03-24;2\n",
+            "line 1, column 3: \"Bemerkung\" is not taken: save the first two columns alone".to_owned(),
         ),
         (
             "2000-03-24;2\nMarch 25;2\n",
-            "line 2, column 1: \"March 25\" is no date: 2026-03-26 or 26.03.2026".to_owned(),
+            "line 2, column 1: \"March 25\" is no date: write it as 2026-03-26 or 26.03.2026".to_owned(),
         ),
         (
             "Datum;Zählerstand\n2000-03-24;2\n",
-            "line 1: \"Datum\" and \"Zählerstand\" do not name the first date and the metered kWh of a period: a header is as date;kWh or Datum;kWh".to_owned(),
+            "line 1: \"Datum\" and \"Zählerstand\" do not name the first date and the metered kWh of a period: a header is as date;kWh or Datum;kWh (the energy of the period in kWh is wanted, not what the meter shows), and a title is a line that begins with #".to_owned(),
         ),
         (
             "2000-03-24;\"2\n",
@@ -320,12 +330,12 @@ fn the_ends_of_the_span_are_told_by_line_and_option() {
         (
             "\n2000-03-24;2\n",
             "2000-03-23",
-            "standard input, line 2, and --until 2000-03-23: 2000-03-24 to 2000-03-23 ends before it begins (question 8, place 0)",
+            "--until 2000-03-23 lies before 2000-03-24, the first date (question 8, place 0)",
         ),
         (
             "2000-01-01;2\n",
             "2004-01-01",
-            "standard input, line 1, and --until 2004-01-01: 2000-01-01 to 2004-01-01 has 1462 days; a period has at most 1461 (question 8, place 0)",
+            "the periods have 1462 days together, from 2000-01-01 to --until 2004-01-01; at most 1461 are allowed (question 8, place 0)",
         ),
     ] {
         Asked { until, ..SOUND }.expect_refused(readings, message);
@@ -361,14 +371,14 @@ fn a_first_date_that_is_refused_is_named_by_its_line() {
             "2000-03-24",
             "2000-03-26",
             3,
-            "2000-03-24 is not later than 2000-03-24 in line 2; the periods stand in their order",
+            "2000-03-24 stands in line 2 already",
             1,
         ),
         (
             "2000-03-26",
             "2000-03-25",
             5,
-            "2000-03-25 is not later than 2000-03-26 in line 3; the periods stand in their order",
+            "2000-03-25 is earlier than 2000-03-26 in line 3: the lines have to stand in the order of their dates, the oldest first",
             2,
         ),
         (
@@ -458,12 +468,54 @@ fn the_first_question_that_is_answered_no_counts() {
 // What is said beside it, and what is written.
 
 #[test]
+fn energy_out_of_proportion_is_warned_of() {
+    let folder = folder("deliveries_doubts");
+    let warned = |readings: &str, until| {
+        let readings = &file(&folder, "readings.csv", readings);
+        let asked = Asked {
+            readings,
+            until,
+            ..SOUND
+        };
+        warnings(&asked.line())
+            .iter()
+            .map(|warning| warning.replace(&readings[..], "FILE"))
+            .collect::<Vec<_>>()
+    };
+    for (readings, until, line, more) in [
+        (
+            "2000-01-01;41230\n2000-02-01;41530\n",
+            "2000-02-29",
+            "line 1: 41230 kWh metered and 74 balanced in 2000-01-01..2000-01-31",
+            "; 1 more such",
+        ),
+        (
+            "Datum;kWh\n2000-01-01;70\n2000-02-01;370\n",
+            "2000-02-01",
+            "line 3: 370 kWh metered and 2 balanced in 2000-02-01..2000-02-01",
+            "",
+        ),
+        (
+            "2000-01-01;75\n2000-02-01;75\n",
+            "2001-02-28",
+            "line 2: 75 kWh metered and 946 balanced in 2000-02-01..2001-02-28",
+            "",
+        ),
+    ] {
+        let expected = format!("FILE, {line}{DOUBT}{more}");
+        assert_eq!(warned(readings, until), [expected]);
+    }
+    let none: [&str; 0] = [];
+    assert_eq!(warned("2000-01-01;75\n2000-02-01;0\n", "2000-02-29"), none);
+}
+
+#[test]
 fn the_warnings_are_those_of_sums() {
     let folder = folder("deliveries_warnings");
     let tenths: Vec<u16> = values().iter().map(|value| value / 1000).collect();
     let kilowatts = &file(&folder, "G0.csv", table("G0", &tenths));
     let list = &file(&folder, "list.txt", "2000-01-01\n");
-    let readings = &file(&folder, "readings.csv", "2000-01-01;300\n2000-12-01;20\n");
+    let readings = &file(&folder, "readings.csv", "2000-01-01;0\n2000-12-01;0\n");
     let sources = ["--profiles", kilowatts, "--holidays", list];
     let sums = [
         &["sums", "G0", "2000-01-01..2001-01-31", "1000"][..],
@@ -563,7 +615,7 @@ fn arguments_that_are_missing_or_not_understood_are_named() {
     );
     expect(
         &[&words[..], &["--until", "2000"]].concat(),
-        "--until: \"2000\" is no date: 2026-03-26 or 26.03.2026",
+        "--until: \"2000\" is no date: write it as 2026-03-26 or 26.03.2026",
     );
     expect(
         &["G0", "2000", "1000"],

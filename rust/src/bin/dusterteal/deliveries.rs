@@ -6,7 +6,7 @@ use slp::{Deliveries, Refusal, RefusalKind};
 use crate::amounts::{Format, Unit, DECIMAL, UNIT};
 use crate::arguments::{self, Choice, Grammar};
 use crate::date::Period;
-use crate::failure::Failure;
+use crate::failure::{warn, Failure};
 use crate::files::{Made, Output};
 use crate::readings::Readings;
 use crate::run::{self, Beginning, Run, Sources, Words, Yearly, HOLIDAYS, OUTPUT, PROFILES};
@@ -54,6 +54,16 @@ impl Row {
         }
     }
 
+    /// Whether metered and balanced energy are out of proportion: more than three times the other, and by 100 kWh at least. A period
+    /// without any use is not.
+    fn is_odd(&self) -> bool {
+        let [less, more] = [
+            self.metered.min(self.balanced),
+            self.metered.max(self.balanced),
+        ];
+        self.metered > 0 && more > 3 * less && more - less >= 100_000
+    }
+
     fn put(&self, text: &mut Vec<u8>, format: Format) {
         text.extend_from_slice(self.name.as_bytes());
         for energy in [self.metered, self.balanced, self.difference] {
@@ -89,12 +99,13 @@ pub fn make(given: &[OsString]) -> Result<Made, Failure> {
     let words = Words {
         group,
         period: readings.span(until),
-        said: readings.said(until),
+        said: readings.said(),
         yearly,
     };
     let run = Run::load(words, Beginning::default(), sources)?;
     let rows = rows(&run, &readings)?;
     run.warn();
+    warn_of_odd(&readings, &rows);
 
     let unit = format.unit.name();
     let header = format!("period;metered {unit};balanced {unit};difference {unit}\n");
@@ -132,9 +143,29 @@ fn rows(run: &Run, readings: &Readings) -> Result<Vec<Row>, Failure> {
         .collect())
 }
 
+/// Warns of the first line whose energy is out of proportion, as where a date, a unit or the kind of number is wrong.
+fn warn_of_odd(readings: &Readings, rows: &[Row]) {
+    let mut odd = (readings.list.iter().zip(rows)).filter(|(_, row)| row.is_odd());
+    let Some((reading, row)) = odd.next() else {
+        return;
+    };
+    let more = match odd.count() {
+        0 => String::new(),
+        count => format!("; {count} more such"),
+    };
+    warn(&format!(
+        "{}: {} kWh metered and {} balanced in {}: look at the dates, the unit, and whether this is the energy of the period{more}",
+        readings.at(reading),
+        row.metered / 1_000,
+        row.balanced / 1_000,
+        row.name
+    ));
+}
+
 /// The failure that a refusal makes, in the terms of the arguments and the file.
 fn refused(run: &Run, readings: &Readings, refusal: Refusal) -> Failure {
     let what = match refusal.kind {
+        RefusalKind::BadPeriod => readings.span_fault(run.period),
         RefusalKind::WrongReadings => readings.count_fault(),
         RefusalKind::BadFirstDate => readings.first_date_fault(refusal.place, run.period.last),
         _ => return run.refused(refusal),
@@ -158,5 +189,16 @@ mod tests {
         assert_eq!(energies(&rows[1]), [3_000, 2_302, 698]);
         assert_eq!(energies(&Row::total(&rows)), [5_000, 4_704, 296]);
         assert_eq!(rows[0].name, "2000-03-25..2000-03-25");
+    }
+
+    #[test]
+    fn three_times_as_much_is_odd_where_it_is_100_kwh() {
+        let month = Period::parse("2000-01").unwrap();
+        let odd = |metered: u32, balanced: i64| {
+            let difference = 1_000 * i64::from(metered) - 1_000 * balanced;
+            Row::of(month, metered, difference).is_odd()
+        };
+        assert!(odd(1_000, 300) && odd(300, 1_000) && odd(41_230, 0) && odd(1, 101));
+        assert!(!odd(900, 300) && !odd(300, 900) && !odd(0, 1_000) && !odd(100, 1));
     }
 }

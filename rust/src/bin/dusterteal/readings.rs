@@ -12,32 +12,42 @@ use crate::text::{self, is_digits, plain, quoted};
 const COLUMNS: usize = 2;
 
 /// What a header may call the first column, compared by letters and digits.
-const DATES: [&str; 7] = [
+const DATES: [&str; 10] = [
     "date",
     "firstdate",
     "firstday",
     "from",
+    "start",
     "datum",
     "erstertag",
     "von",
+    "ab",
+    "beginn",
 ];
 
 /// What it may call the second. A meter's count (`Zählerstand`) is not among them: the energy of the period is wanted.
-const ENERGIES: [&str; 9] = [
+const ENERGIES: [&str; 13] = [
     "kwh",
     "metered",
     "meteredkwh",
     "consumptionkwh",
+    "energykwh",
     "verbrauch",
     "verbrauchkwh",
     "verbrauchinkwh",
     "gemessen",
     "gemessenkwh",
+    "energiekwh",
+    "arbeitkwh",
+    "mengekwh",
 ];
 
 /// What a line has, in a message.
 const LINE: &str =
     "a line has the first date of a period and its metered kWh, split by a semicolon, a tab or a comma";
+
+/// What is said of a line with more columns.
+const FIRST_TWO: &str = "save the first two columns alone";
 
 /// What metered energy may be.
 const ALLOWED: &str = "whole kWh are wanted, 0 to 4294967295, without separators";
@@ -81,14 +91,14 @@ impl Readings {
     }
 
     /// What refusals call these days.
-    pub fn said(&self, until: Date) -> SaidPeriod {
+    pub fn said(&self) -> SaidPeriod {
         let last = "--until".to_owned();
         let Some(reading) = self.list.first() else {
             return SaidPeriod::word(last);
         };
         let first = self.at(reading);
         SaidPeriod {
-            whole: format!("{first}, and --until {until}"),
+            whole: first.clone(),
             dates: [first, last],
         }
     }
@@ -118,6 +128,18 @@ impl Readings {
         }
     }
 
+    /// Why question 8 refuses the span.
+    pub fn span_fault(&self, span: Period) -> String {
+        let Period { first, last } = span;
+        if first > last {
+            return format!("--until {last} lies before {first}, the first date");
+        }
+        format!(
+            "the periods have {} days together, from {first} to --until {last}; at most 1461 are allowed",
+            first.days_to(last)
+        )
+    }
+
     /// Why question 18 refuses the first date at an index.
     pub fn first_date_fault(&self, index: usize, until: Date) -> String {
         let reading = &self.list[index];
@@ -125,8 +147,11 @@ impl Readings {
         let before = index.checked_sub(1).map(|before| &self.list[before]);
         let what = match before {
             _ if !first.is_real() => first.why_not_real(),
-            Some(before) if first <= before.first => format!(
-                "{first} is not later than {} in line {}; the periods stand in their order",
+            Some(before) if first == before.first => {
+                format!("{first} stands in line {} already", before.line)
+            }
+            Some(before) if first < before.first => format!(
+                "{first} is earlier than {} in line {}: the lines have to stand in the order of their dates, the oldest first",
                 before.first, before.line
             ),
             _ => format!("{first} lies after --until {until}, the last day of the last period"),
@@ -135,7 +160,7 @@ impl Readings {
     }
 
     /// What messages call the place of a reading.
-    fn at(&self, reading: &Reading) -> String {
+    pub fn at(&self, reading: &Reading) -> String {
         format!("{}, line {}", self.source.name, reading.line)
     }
 }
@@ -147,34 +172,47 @@ fn parse(text: &str) -> Result<Vec<Reading>, Fault> {
         Some((first, rest)) if is_header(first)? => rest,
         _ => &sheet.lines,
     };
+    let reading = |line| reading(line, sheet.separator);
     lines.iter().map(reading).collect()
 }
 
-/// Whether a first line names the columns: so it is meant where its first field has no digit.
+/// Whether a first line names the columns: so it is meant where it does not begin with a digit, as a date does.
 fn is_header(line: &Line) -> Result<bool, Fault> {
-    let [first, second] = [line.field(0), line.field(1)];
-    if first.contains(|c: char| c.is_ascii_digit()) {
+    let [first, second, third] = [line.field(0), line.field(1), line.field(2)];
+    if first.starts_with(|c: char| c.is_ascii_digit()) {
         return Ok(false);
     }
-    if DATES.contains(&&*plain(first)) && ENERGIES.contains(&&*plain(second)) {
-        return Ok(true);
+    if !DATES.contains(&&*plain(first)) || !ENERGIES.contains(&&*plain(second)) {
+        return Err(line.fault(format!(
+            "{} and {} do not name the first date and the metered kWh of a period: a header is as date;kWh or Datum;kWh (the energy of the period in kWh is wanted, not what the meter shows), and a title is a line that begins with #",
+            quoted(first),
+            quoted(second)
+        )));
     }
-    Err(line.fault(format!(
-        "{} and {} do not name the first date and the metered kWh of a period: a header is as date;kWh or Datum;kWh",
-        quoted(first),
-        quoted(second)
-    )))
+    if line.width() > COLUMNS {
+        let what = format!("{} is not taken: {FIRST_TWO}", quoted(third));
+        return Err(line.fault_at(COLUMNS, what));
+    }
+    Ok(true)
 }
 
-fn reading(line: &Line) -> Result<Reading, Fault> {
+fn reading(line: &Line, separator: char) -> Result<Reading, Fault> {
     match line.width() {
         COLUMNS => {}
+        1 if line.fields.len() > 1 => {
+            let what = "the metered kWh are missing; the end of the last period is said by --until";
+            return Err(line.fault_at(1, what.to_owned()));
+        }
         1 => return Err(line.fault(format!("1 field: {LINE}"))),
-        found => return Err(line.fault(format!("{found} fields: {LINE}; {ALLOWED}"))),
+        found => {
+            // A comma may be a decimal one.
+            let hint = if separator == ',' { ALLOWED } else { FIRST_TWO };
+            return Err(line.fault(format!("{found} fields: {LINE}; {hint}")));
+        }
     }
     let [first, metered] = [line.field(0), line.field(1)];
     let no_date = || {
-        let what = format!("{} is no date: {}", quoted(first), date::FORMS);
+        let what = format!("{} is no date: write it as {}", quoted(first), date::FORMS);
         line.fault_at(0, what)
     };
     Ok(Reading {
@@ -262,12 +300,17 @@ mod tests {
             ("date;MWh", "date", "MWh"),
             ("kWh;date", "kWh", "date"),
             ("Datum", "Datum", ""),
+            ("Verbrauch Kunde 4711", "Verbrauch Kunde 4711", ""),
         ] {
             assert_eq!(
                 fault_of(&format!("{header}\n2000-01-01;300")),
-                format!("line 1: {first:?} and {second:?} do not name the first date and the metered kWh of a period: a header is as date;kWh or Datum;kWh")
+                format!("line 1: {first:?} and {second:?} do not name the first date and the metered kWh of a period: a header is as date;kWh or Datum;kWh (the energy of the period in kWh is wanted, not what the meter shows), and a title is a line that begins with #")
             );
         }
+        assert_eq!(
+            fault_of("von;kWh;Bemerkung\n2000-01-01;300"),
+            "line 1, column 3: \"Bemerkung\" is not taken: save the first two columns alone"
+        );
         assert!(
             fault_of("2000-01-01;1\ndate;kWh").starts_with("line 2, column 1: \"date\" is no date")
         );
@@ -277,7 +320,7 @@ mod tests {
     fn what_is_no_date_and_what_is_no_whole_number_is_named() {
         assert_eq!(
             fault_of("2000-01-01;1\n\n2000-1-2;1"),
-            "line 3, column 1: \"2000-1-2\" is no date: 2026-03-26 or 26.03.2026"
+            "line 3, column 1: \"2000-1-2\" is no date: write it as 2026-03-26 or 26.03.2026"
         );
         for (field, what) in [
             ("300,5", "has decimals or a thousands separator"),
@@ -311,6 +354,14 @@ mod tests {
             fault_of("2000-01-01,300,5"),
             format!("line 1: 3 fields: {LINE}; {ALLOWED}")
         );
+        assert_eq!(
+            fault_of("2000-01-01;300;ok"),
+            format!("line 1: 3 fields: {LINE}; {FIRST_TWO}")
+        );
+        assert_eq!(
+            fault_of("2000-01-01;1\n2000-01-31;"),
+            "line 2, column 2: the metered kWh are missing; the end of the last period is said by --until"
+        );
     }
 
     #[test]
@@ -342,9 +393,11 @@ mod tests {
             fault("2000-02-30"),
             "a.csv, line 3: 2000-02-30 does not exist: February 2000 has 29 days"
         );
-        for first in ["2000-02-01", "2000-01-01"] {
-            assert_eq!(fault(first), format!("a.csv, line 3: {first} is not later than 2000-02-01 in line 2; the periods stand in their order"));
-        }
+        assert_eq!(
+            fault("2000-02-01"),
+            "a.csv, line 3: 2000-02-01 stands in line 2 already"
+        );
+        assert_eq!(fault("2000-01-01"), "a.csv, line 3: 2000-01-01 is earlier than 2000-02-01 in line 2: the lines have to stand in the order of their dates, the oldest first");
         assert_eq!(fault("2000-04-01"), "a.csv, line 3: 2000-04-01 lies after --until 2000-03-31, the last day of the last period");
     }
 }

@@ -379,7 +379,7 @@ pub fn period(grammar: &Grammar, text: &str) -> Result<Period, Failure> {
 pub fn date(grammar: &Grammar, name: &str, text: &str) -> Result<Date, Failure> {
     Date::parse(text).ok_or_else(|| {
         grammar.fault(&format!(
-            "{name}: {} is no date: {}",
+            "{name}: {} is no date: write it as {}",
             quoted(text),
             date::FORMS
         ))
