@@ -31,7 +31,7 @@
  *       16  the list for the holidays is too short                              entries needed
  *       17  the reading periods are not 1 to 48, or the metered values are      0
  *           not as many
- *       18  the first date of a reading period is no such date, outside the     index of the first such period
+ *       18  the first date of a reading period is not real, outside the         index of the first such period
  *           span, not later than the one before or, of the first period, not
  *           the span's own
  *
@@ -186,26 +186,26 @@ struct slp_response_report slp_respond(const uint8_t *input, size_t input_length
 
 /*
  * Writes the German holidays of `year` into the first entries of `list` and keeps those beyond: the eleven days that all of
- * Germany keeps (New Year, Good Friday, Easter Sunday and Monday, 1 May, Ascension Day, Whit Sunday and Monday, 3 October, 25 and
- * 26 December), and the regional days whose bits are set in `choice`: SLP_EPIPHANY (bit 0), SLP_CORPUS_CHRISTI (1), SLP_ASSUMPTION
- * (2), SLP_REFORMATION (3), SLP_ALL_SAINTS (4), SLP_REPENTANCE (5), joined by |; 0 for none. The dates rise, and one that is met
- * twice (1 May 2008, Ascension Day too) is listed once, so slp_day, slp_expand and slp_deliveries take the list. 24 and 31 December are no public
- * holidays and not in it, so that they count as Saturday where they are no Sundays; where an agreement makes one of them a full holiday,
- * insert it where the dates still rise (lend an entry more for it). Questions 14, 15 and 16 (place: the entries needed;
- * SLP_MOST_HOLIDAYS is always enough).
+ * Germany keeps (New Year, Good Friday, Easter Sunday and Monday, 1 May, Ascension Day, Whit Sunday and Monday, 3 October, 25
+ * and 26 December), and the regional days whose bits are set in `choice`: SLP_EPIPHANY (bit 0), SLP_CORPUS_CHRISTI (1),
+ * SLP_ASSUMPTION (2), SLP_REFORMATION (3), SLP_ALL_SAINTS (4), SLP_REPENTANCE (5), joined by |; 0 for none. The dates rise, and
+ * one that is met twice (1 May 2008, Ascension Day too) is listed once, so slp_day, slp_expand and slp_deliveries take the
+ * list. 24 and 31 December are no public holidays and not in it, so that they count as Saturday where they are no Sundays;
+ * where an agreement makes one of them a full holiday, insert it where the dates still rise (lend an entry more for it).
+ * Questions 14, 15 and 16 (place: the entries needed; SLP_MOST_HOLIDAYS is always enough).
  */
 struct slp_holidays_report slp_holidays(uint32_t year, uint8_t choice, uint32_t *list, size_t list_length);
 
 /*
- * Writes the over and under deliveries of a customer into the first entries of `out`, one for each reading period, and keeps those
- * beyond: its metered energy minus its balanced energy in Wh, positive where the customer drew more. The span goes from `first` to
- * `last`, both included, at most 1,461 days. `starts` has the first date of each period, 1 to SLP_MOST_PERIODS of them: the first is
- * `first`, each is later than the one before. A period ends the day before the next one begins, the last with `last`. `metered` has
- * the kWh of each period, as many entries as `starts`. The customer is balanced by the profile of `group` in `file`, with `holidays`
- * and a yearly use of `yearly` kWh, at most 1,000,000,000. A period's balanced energy is the sum of its figures in the series that slp_expand makes for the whole span, begun
- * with carry 0, so that the differences add up to 1,000 times all metered kWh less that series' total. `holidays` is not NULL, also
- * where the list is empty. Questions 1 to 8, 17, 18, 9, 10 and 12 (place: the entries needed, one for each period;
- * SLP_MOST_PERIODS is always enough), in this order.
+ * Writes the over and under deliveries of a customer into the first entries of `out`, one for each reading period, and keeps
+ * those beyond: its metered energy minus its balanced energy in Wh, positive where the customer drew more. The span goes from
+ * `first` to `last`, both included, at most 1,461 days. `starts` has the first date of each period, 1 to SLP_MOST_PERIODS of
+ * them: the first is `first`, each is later than the one before. A period ends the day before the next one begins, the last
+ * with `last`. `metered` has the kWh of each period, as many entries as `starts`. The customer is balanced by the profile of
+ * `group` in `file`, with `holidays` and a yearly use of `yearly` kWh, at most 1,000,000,000. A period's balanced energy is the
+ * sum of its figures in the series that slp_expand makes for the whole span, begun with carry 0, so that the differences add up
+ * to 1,000 times all metered kWh less that series' total. Questions 1 to 8, 17, 18, 9, 10 and 12 (place: the entries needed,
+ * one for each period; SLP_MOST_PERIODS is always enough), in this order.
  */
 struct slp_check_report slp_deliveries(const uint8_t *file, size_t file_length, uint8_t group, uint32_t first, uint32_t last,
                                        const uint32_t *starts, size_t starts_length, const uint32_t *metered,

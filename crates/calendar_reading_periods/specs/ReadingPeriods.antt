@@ -14,7 +14,7 @@ unfoldable pub readingsQuestion : ℕ → ℕ → Verdict
 readingsQuestion dates values = ask (leb 1 dates && leb dates 48 && eqb values dates) WrongReadings
 
 -- "first dates not real, not strictly rising inside that span, or not begun at its start, 18, place = index": of one first date,
--- `first` and `last` being the span's dates (that none lies before `first` follows from the rest)
+-- `first` and `last` being the span's dates (that none lies before `first` follows where those before it passed)
 unfoldable pub firstDateQuestion : ℕ → ℕ → List ℕ → ℕ → Verdict
 firstDateQuestion first last starts index =
     ask

@@ -19,7 +19,7 @@ use Rattle.calendar_reading_periods.specs.ReadingPeriods.{readingsQuestion, fir
 use Rattle.calendar_reading_periods.proofs.ReadingPeriods.{Counted, counted, all-dates, begins}
 use Rattle.carry.specs.Carry.{largestUse}
 use Rattle.call_request.specs.Request.{Request, basisOf, series, useQuestion, aheadOfPeriod}
-use Rattle.call_request.proofs.Request.{passes}
+use Rattle.call_request.proofs.Request.{Sound, passes}
 use Rattle.call_open.specs.declared.Opening.{Opening}
 use Rattle.call_open.specs.Inside.{opening}
 use Rattle.call_open.proofs.Given.{answers-request, OpenedFor, opened-for}
@@ -37,7 +37,7 @@ same-differences q (kWh ∷ metered) [] carry = refl
 same-differences q (kWh ∷ metered) (p ∷ periods) carry = ap (λ (zs : List ℤ). difference kWh (totals (ofPeriod q p carry) .total) ∷ zs) (same-differences q metered periods (totals (ofPeriod q p carry) .carry))
 
 -- what is known where every question passed
-pub record Sound (d : Deliveries) : Type 0 where
+pub record Accepted (d : Deliveries) : Type 0 where
   pub ahead : aheadOfPeriod (d .file) (d .group) ≡ Pass
   pub period : Period (d .first) (d .last)
   pub counted : Counted (length (d .starts)) (length (d .metered))
@@ -57,7 +57,7 @@ module _ (d : Deliveries) where
   unfolding deliveriesCheck
   all-passed s b = passed-second _ _ _ s ∙ b
 
-  pub sound : deliveriesCheck d ≡ Pass → Sound d
+  pub sound : deliveriesCheck d ≡ Pass → Accepted d
   unfolding deliveriesCheck useQuestion
   sound h =
       let to-8 = then-next (aheadOfPeriod (d .file) (d .group)) _ h in
@@ -75,7 +75,7 @@ module _ (d : Deliveries) where
         room = room-passed _ _ (then-next (useQuestion (d .yearly)) _ to-10);
       }
 
-  pub readings : Sound d → Readings (d .last) (d .starts) (d .metered) (d .output)
+  pub readings : Accepted d → Readings (d .last) (d .starts) (d .metered) (d .output)
   readings s =
       let some = s .counted .some in
       record {
@@ -90,13 +90,13 @@ module _ (d : Deliveries) where
         room = s .room;
       }
 
-  -- the whole span, opened
-  pub span-opened : {o : Opening} → Sound d → o ≡ opening (wholeSpan d) → OpenedFor (wholeSpan d) o
+  -- the whole span, begun with carry 0, and opened
+  pub whole-sound : Accepted d → Sound (wholeSpan d)
+  whole-sound s = record { file = s .ahead; period = s .period; holidays = s .holidays; yearly = s .yearly; carry = omega arith }
+
+  pub span-opened : {o : Opening} → Accepted d → o ≡ opening (wholeSpan d) → OpenedFor (wholeSpan d) o
   span-opened s e =
-      opened-for (wholeSpan d)
-      (answers-request
-      (passes (wholeSpan d) (record { file = s .ahead; period = s .period; holidays = s .holidays; yearly = s .yearly; carry = omega arith }))
-      e)
+      opened-for (wholeSpan d) (answers-request (passes (wholeSpan d) (whole-sound s)) e)
 
   -- a difference for each period
   pub one-per-period : length (d .metered) ≡ length (d .starts) → length (differences d) ≡ length (d .starts)

@@ -1,1 +1,1 @@
-// Document 02, (c): one theorem about every accepted call for over and under deliveries. There is no code.
+// Document 02, (c): a theorem about every accepted call for over and under deliveries, and reading periods worked out. There is no code.

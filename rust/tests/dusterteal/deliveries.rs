@@ -42,12 +42,19 @@ impl<'a> Asked<'a> {
         [&words[..], &sources, &periods].concat()
     }
 
-    /// What is written for readings on standard input.
+    /// What is written for readings on standard input, and nothing is said.
     fn of(self, readings: impl AsRef<[u8]>, options: &[&str]) -> String {
         let line = [&self.line(), options].concat();
         let outcome = run_with(&line, readings.as_ref());
+        assert_eq!((outcome.status, outcome.said.as_str()), (0, ""), "{line:?}");
+        String::from_utf8(outcome.written).expect("the output is text")
+    }
+
+    /// What is written for readings of a file, whose energy may be out of proportion.
+    fn of_any(self) -> String {
+        let outcome = run(&self.line());
         let doubts = outcome.said.lines().all(|said| said.contains(DOUBT));
-        assert!(outcome.status == 0 && doubts, "{line:?}: {}", outcome.said);
+        assert!(outcome.status == 0 && doubts, "{}", outcome.said);
         String::from_utf8(outcome.written).expect("the output is text")
     }
 
@@ -168,7 +175,7 @@ fn the_lines_are_those_of_the_reference() {
             until: &dashed(last),
         };
         let expected = expected(&source, group, yearly, &list, last);
-        expect_text(&asked.of("", &[]), &expected, (group, yearly));
+        expect_text(&asked.of_any(), &expected, (group, yearly));
     }
 }
 
@@ -182,11 +189,12 @@ fn one_to_48_periods_are_accepted() {
         let list = months(count);
         let asked = Asked {
             profiles: &source.profiles,
+            readings: &file(&folder, "readings.csv", csv(&list)),
             until: &dashed(last),
             ..SOUND
         };
         let expected = expected(&source, 1, 1_000, &list, last);
-        expect_text(&asked.of(csv(&list), &[]), &expected, count);
+        expect_text(&asked.of_any(), &expected, count);
         assert_eq!(expected.lines().count(), count as usize + 2);
     }
 }
@@ -330,12 +338,12 @@ fn the_ends_of_the_span_are_told_by_line_and_option() {
         (
             "\n2000-03-24;2\n",
             "2000-03-23",
-            "--until 2000-03-23 lies before 2000-03-24, the first date (question 8, place 0)",
+            "standard input, line 2: --until 2000-03-23 lies before 2000-03-24, the first date (question 8, place 0)",
         ),
         (
             "2000-01-01;2\n",
             "2004-01-01",
-            "the periods have 1462 days together, from 2000-01-01 to --until 2004-01-01; at most 1461 are allowed (question 8, place 0)",
+            "standard input, line 1: the periods have 1462 days together, from 2000-01-01 to --until 2004-01-01; at most 1461 are allowed (question 8, place 0)",
         ),
     ] {
         Asked { until, ..SOUND }.expect_refused(readings, message);

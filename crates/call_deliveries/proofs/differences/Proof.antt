@@ -11,7 +11,7 @@ use Rattle.call_request.specs.Request.{aheadOfPeriod}
 use Rattle.call_open.specs.Inside.{opening}
 use Rattle.call_open.proofs.Given.{opened-request, opened-refused, OpenedFor, table-is, group-values}
 use Rattle.call_deliveries.specs.Deliveries.{Deliveries, deliveries, wholeSpan, behindSpan}
-use Rattle.call_deliveries.proofs.Answers.{Sound, all-passed, sound, readings, span-opened, span-refused, behind-refused, delivered}
+use Rattle.call_deliveries.proofs.Answers.{Accepted, all-passed, sound, readings, span-opened, span-refused, behind-refused, delivered}
 use Rattle.call_deliveries.proofs.differences.Statement.{statement}
 use Rattle.call_deliveries.proofs.differences.Tie as tie
 
@@ -38,7 +38,7 @@ behind-passed : (c : tie.After-enum-told) → let d = asked (of-all c) in
     behindSpan (d .first) (d .last) (d .starts) (length (d .metered)) (d .holidays) (d .yearly) (length (d .output)) ≡ Pass
 behind-passed c = sym (c .before .before .behind-span .ensures) ∙ c .enum-told .given .1
 
-all-sound : (c : tie.After-enum-told) → Sound (asked (of-all c))
+all-sound : (c : tie.After-enum-told) → Accepted (asked (of-all c))
 all-sound c = let d = asked (of-all c) in sound d (all-passed d (span-passed (of-all c) .0) (behind-passed c))
 
 opened : (c : tie.After-enum-told) → OpenedFor (wholeSpan (asked (of-all c))) (of-all c .before .opening .given .0 .0)

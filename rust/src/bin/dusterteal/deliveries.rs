@@ -165,12 +165,21 @@ fn warn_of_odd(readings: &Readings, rows: &[Row]) {
 /// The failure that a refusal makes, in the terms of the arguments and the file.
 fn refused(run: &Run, readings: &Readings, refusal: Refusal) -> Failure {
     let what = match refusal.kind {
-        RefusalKind::BadPeriod => readings.span_fault(run.period),
+        RefusalKind::BadPeriod => format!("{}: {}", readings.said().whole, span_fault(run.period)),
         RefusalKind::WrongReadings => readings.count_fault(),
         RefusalKind::BadFirstDate => readings.first_date_fault(refusal.place, run.period.last),
         _ => return run.refused(refusal),
     };
     Failure::by_question(&what, refusal)
+}
+
+/// Why question 8 refuses the span.
+fn span_fault(Period { first, last }: Period) -> String {
+    if first > last {
+        return format!("--until {last} lies before {first}, the first date");
+    }
+    let days = first.days_to(last);
+    format!("the periods have {days} days together, from {first} to --until {last}; at most 1461 are allowed")
 }
 
 #[cfg(test)]

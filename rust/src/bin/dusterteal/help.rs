@@ -150,11 +150,11 @@ fn sums() -> String {
 }
 
 fn deliveries() -> String {
-    let does = "Writes metered energy, balanced energy and their difference of each reading period of a customer as CSV, and a last line with the
-total: period;metered Wh;balanced Wh;difference Wh. The difference is metered minus balanced energy, positive where the customer
-drew more (source document 001, equation 4.8). The balanced energy is that of the series from the first period's first day on,
-begun with carry 0.";
-    let readings = "  --readings FILE       a CSV file with a line for each period, 1 to 48 in their order: its first date (not the day at its end on
+    let does = "Writes metered energy, balanced energy and their difference of each reading period of a customer as CSV:
+period;metered Wh;balanced Wh;difference Wh, and a last line with the total. The difference is metered minus balanced energy,
+positive where the customer drew more (source document 001, equation 4.8). The balanced energy is that of the series from the
+first period's first day on, begun with carry 0.";
+    let readings = "  --readings FILE       a CSV file with a line for each period, 1 to 48, the oldest first: its first date (not the day at its end on
                         which the meter was read) and its metered kWh, a whole number (the period's energy, not what the meter
                         shows), split by a semicolon, a tab or a comma. A header as date;kWh or Datum;kWh may stand first; lines
                         that begin with # are passed over. A period ends the day before the next one begins

@@ -1,6 +1,8 @@
 //! A customer's readings: the first date and the metered kWh of each period, of a file as spreadsheets write it.
 use std::ffi::OsStr;
 
+use slp::MOST_PERIODS;
+
 use crate::date::{self, Date, Period};
 use crate::failure::Failure;
 use crate::files::Input;
@@ -90,7 +92,7 @@ impl Readings {
         }
     }
 
-    /// What refusals call these days.
+    /// What refusals call these days: by the first line.
     pub fn said(&self) -> SaidPeriod {
         let last = "--until".to_owned();
         let Some(reading) = self.list.first() else {
@@ -115,29 +117,18 @@ impl Readings {
 
     /// Why question 17 refuses the readings.
     pub fn count_fault(&self) -> String {
-        match self.list.get(slp::MOST_PERIODS) {
+        match self.list.get(MOST_PERIODS) {
             Some(reading) => format!(
-                "{}: this is the 49th of {} periods; 1 to 48 are allowed",
+                "{}: this is the {}th of {} periods; 1 to {MOST_PERIODS} are allowed",
                 self.at(reading),
+                MOST_PERIODS + 1,
                 self.list.len()
             ),
             None => format!(
-                "{} has no period; 1 to 48 are allowed: {LINE}",
+                "{} has no period; 1 to {MOST_PERIODS} are allowed: {LINE}",
                 self.source.name
             ),
         }
-    }
-
-    /// Why question 8 refuses the span.
-    pub fn span_fault(&self, span: Period) -> String {
-        let Period { first, last } = span;
-        if first > last {
-            return format!("--until {last} lies before {first}, the first date");
-        }
-        format!(
-            "the periods have {} days together, from {first} to --until {last}; at most 1461 are allowed",
-            first.days_to(last)
-        )
     }
 
     /// Why question 18 refuses the first date at an index.
