@@ -15,15 +15,25 @@ use Rattle.calendar_days.specs.declared.DayKind.{DayKind}
 use Rattle.calendar_days.specs.declared.Clock.{Clock}
 use Rattle.calendar_days.specs.declared.Clock.the-variants.{Unchanged, Forward, Back}
 
--- the day within a year, as mmdd
+-- the place of a date in its year, as mmdd
 abbrev pub monthDay : Date → ℕ
 monthDay d = d .month * 100 + d .day
 
--- "winter 1 November to 20 March, summer 15 May to 14 September, transition otherwise"
+-- whether a date is in its year from a day and month on, and whether it is up to one, that day itself included: 000 writes "1.11." and
+-- "20.03."
+unfoldable pub from : Date → ℕ → ℕ → Bool
+from d day month = leb (month * 100 + day) (monthDay d)
+
+unfoldable pub to : Date → ℕ → ℕ → Bool
+to d day month = leb (monthDay d) (month * 100 + day)
+
+-- Source document 000, step 2: "Winter: 1.11.-20.03., Sommer: 15.05.-14.09. und Übergang: 21.03.-14.05. bzw. 15.09.-31.10.", asked in
+-- that order (document 02, (d)); winter goes over New Year, and what is left is transition
 unfoldable pub season : Date → Season
 season d =
-    cond (leb 1101 (monthDay d) || leb (monthDay d) 320) Winter
-    (cond (leb 515 (monthDay d) && leb (monthDay d) 914) Summer Transition)
+    cond (from d 1 11 || to d 20 3) Winter
+    (cond (from d 15 5 && to d 14 9) Summer
+    Transition)
 
 -- "24 or 31 December"
 unfoldable pub isEve : Date → Bool

@@ -2,8 +2,9 @@
 use calendar_dates::Date;
 ghost use mathlib.Core.Path.{_≡_};
 ghost use mathlib.Core.Bool.{true};
+ghost use Prim.Native.Nat.{_≤_};
 ghost use Rattle.calendar_dates.specs.Dates.{isDate, weekdayOf};
-ghost use Rattle.calendar_days.specs.Days.{season, isEve, dayTypeWhen, dayType, lastSunday, clock, valueCountUnder};
+ghost use Rattle.calendar_days.specs.Days.{monthDay, from, to, season, isEve, dayTypeWhen, dayType, lastSunday, clock, valueCountUnder};
 
 pub enum Season {
     Winter,
@@ -30,21 +31,40 @@ pub enum Clock {
     Back,
 }
 
+// The place of a date in its year, as mmdd.
+fn month_day(d: Date) -> u32
+    requires { ⌜ isDate d ≡ true ⌝ }
+    ensures { λ r. ⌜ r ≡ monthDay d ⌝ }
+{
+    d.month * 100 + d.day
+}
+
+// Whether a date is in its year from that day and month on.
+fn from(d: Date, day: u32, month: u32) -> bool
+    requires { ⌜ (isDate d ≡ true) × (day ≤ 31) × (month ≤ 12) ⌝ }
+    ensures { λ r. ⌜ r ≡ from d day month ⌝ }
+{
+    month * 100 + day <= month_day(d)
+}
+
+// Whether a date is in its year up to that day and month, itself included.
+fn to(d: Date, day: u32, month: u32) -> bool
+    requires { ⌜ (isDate d ≡ true) × (day ≤ 31) × (month ≤ 12) ⌝ }
+    ensures { λ r. ⌜ r ≡ to d day month ⌝ }
+{
+    month_day(d) <= month * 100 + day
+}
+
+// Source document 000, step 2, in its order: "Winter: 1.11.-20.03., Sommer: 15.05.-14.09. und Übergang".
 pub fn season_of(d: Date) -> Season
     requires { ⌜ isDate d ≡ true ⌝ }
     ensures { λ r. ⌜ r ≡ season d ⌝ }
 {
-    let month_day = d.month * 100 + d.day;
-    if 1101 <= month_day {
+    if from(d, 1, 11) || to(d, 20, 3) {
         return Season::Winter;
     }
-    if month_day <= 320 {
-        return Season::Winter;
-    }
-    if 515 <= month_day {
-        if month_day <= 914 {
-            return Season::Summer;
-        }
+    if from(d, 15, 5) && to(d, 14, 9) {
+        return Season::Summer;
     }
     Season::Transition
 }

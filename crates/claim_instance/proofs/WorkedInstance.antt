@@ -15,7 +15,7 @@ use Rattle.refusal.specs.Questions.{ask, _then_, askEach, roomQuestion}
 use Rattle.refusal.proofs.Questions.{ask-yes, then-pass}
 use Rattle.calendar_dates.specs.Dates.{leapDays, monthLength, isDate, daysOfMonths, dayOfYear, daysOfYears, dayNumber, weekdayOf, nextDay}
 use Rattle.calendar_holidays.specs.Holidays.{listed, holidaysQuestion}
-use Rattle.calendar_days.specs.Days.{season, isEve, dayTypeWhen, lastSunday, clock, positions}
+use Rattle.calendar_days.specs.Days.{from, to, season, isEve, dayTypeWhen, lastSunday, clock, positions}
 use Rattle.calendar_period.specs.Period.{dateQuestion, daysOf, periodQuestion}
 use Rattle.file_layout.specs.Header.{layoutOf, markQuestion, versionQuestion, lengthQuestion, headerCheck}
 use Rattle.file_values.specs.Values.{valueQuestion, profileValuesQuestion}
@@ -63,7 +63,7 @@ by-contract : (q : Request) → ByContract (callFor q)
 by-contract q = record { answers = refl; leaves = refl }
 
 pub worked-instance : WorkedInstance
-unfolding ask _then_ askEach roomQuestion layoutOf offsetAmong eachFrom X F Q leapDays monthLength isDate daysOfMonths dayOfYear daysOfYears dayNumber weekdayOf nextDay season listed isEve dayTypeWhen lastSunday clock positions dateQuestion holidaysQuestion daysOf periodQuestion dayValues dayQuarters quartersOfDays series figures lastCarry sum useQuestion carryQuestion accepted Successive SuccessiveCalls
+unfolding ask _then_ askEach roomQuestion layoutOf offsetAmong eachFrom X F Q leapDays monthLength isDate daysOfMonths dayOfYear daysOfYears dayNumber weekdayOf nextDay from to season listed isEve dayTypeWhen lastSunday clock positions dateQuestion holidaysQuestion daysOf periodQuestion dayValues dayQuarters quartersOfDays series figures lastCarry sum useQuestion carryQuestion accepted Successive SuccessiveCalls
 worked-instance =
     let first = passed-file saturday passes in
     let refused = passed-file between passes in

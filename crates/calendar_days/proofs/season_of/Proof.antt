@@ -1,39 +1,53 @@
--- `calendar_days::season_of` meets its contract: each `return` rewrites with the tests that led there.
+-- `calendar_days::season_of` meets its contract: each `return` rewrites with the answers that led there.
 -- Assumes nothing.
-use native.Mathlib.Omega.{arith}
-use borrow.Author.Tests.{le-leb, lt-leb}
-use Rattle.calendar_dates.proofs.Dates.{parts}
-use Rattle.calendar_days.specs.Days.{season}
+use mathlib.Core.Path.{_≡_}
+use mathlib.Core.Bool.{false, _||_}
+use mathlib.Core.Logic.{⊎-elim}
+use borrow.Author.Needs.{needs}
+use Rattle.calendar_days.specs.Days.{from, to, season}
 use Rattle.calendar_days.proofs.season_of.Statement.{statement}
 use Rattle.calendar_days.proofs.season_of.Tie as tie
 
-mul-month-day : tie.Need-mul-month-day
-mul-month-day c = omega (arith, parts (c .before .args .d) (c .before .pre))
+from-requires : tie.Need-from-requires
+from-requires c κs = search needs
 
-add-month-day : tie.Need-add-month-day
-add-month-day c = omega (arith, parts (c .before .before .args .d) (c .before .before .pre))
+to-requires : tie.Need-to-requires
+to-requires c κs = search needs
 
 returns : tie.Need-returns
 unfolding season
-returns c = simp (le-leb _ _ (c .if1 .taken))
+returns c =
+    let first = c .before .from .ensures in
+    ⊎-elim
+    (λ w. rw (← first, w .taken))
+    (λ w. rw (← first, w .0 .left, ← w .1 .ensures, w .2 .taken))
+    (c .if1 .came)
+
+-- what the answers say of a date that is not in winter
+no-winter : (c : tie.Else2) → (from (c .before .before .before .before .args .d) 1 11 || to (c .before .before .before .before .args .d) 20 3) ≡ false
+no-winter c = rw (← c .before .before .before .from .ensures, c .before .before .if1 .left, ← c .before .to .ensures, c .if2 .left)
+
+from-requires-2 : tie.Need-from-requires-2
+from-requires-2 c κs = search needs
+
+to-requires-2 : tie.Need-to-requires-2
+to-requires-2 c κs = search needs
 
 returns-2 : tie.Need-returns-2
 unfolding season
-returns-2 c = simp (lt-leb _ _ (c .before .if1 .left), le-leb _ _ (c .if2 .taken))
+returns-2 c =
+    rw (no-winter (c .before .before .before .before), ← c .before .before .before .from2 .ensures, c .before .before .if3 .taken, ← c .before .to2 .ensures, c .if4 .taken)
 
 returns-3 : tie.Need-returns-3
 unfolding season
-returns-3 c = simp (lt-leb _ _ (c .before .before .before .if1 .left), lt-leb _ _ (c .before .before .if2 .left), le-leb _ _ (c .before .if3 .taken), le-leb _ _ (c .if4 .taken))
-
-returns-4 : tie.Need-returns-4
-unfolding season
-returns-4 c = simp (lt-leb _ _ (c .before .before .before .if1 .left), lt-leb _ _ (c .before .before .if2 .left), le-leb _ _ (c .before .if3 .taken), lt-leb _ _ (c .if4 .left))
-
-returns-5 : tie.Need-returns-5
-unfolding season
-returns-5 c = simp (lt-leb _ _ (c .before .before .if1 .left), lt-leb _ _ (c .before .if2 .left), lt-leb _ _ (c .if3 .left))
+returns-3 c =
+    let first = c .before .from2 .ensures in
+    ⊎-elim
+    (λ w. rw (no-winter (c .before .before), ← first, w .0 .taken, ← w .1 .ensures, w .2 .left))
+    (λ w. rw (no-winter (c .before .before), ← first, w .left))
+    (c .if3 .came)
 
 pub season-of-spec : {M : Type 1} → statement M
 season-of-spec =
     tie.close
-    (tie.spec mul-month-day add-month-day returns returns-2 returns-3 returns-4 returns-5)
+    (tie.spec from-requires to-requires returns from-requires-2 to-requires-2 returns-2 returns-3)
