@@ -17,7 +17,7 @@ use Rattle.calendar_dates.proofs.NextDay.{is-same-month, is-next-month}
 use Rattle.calendar_days.specs.declared.Season.{Season}
 use Rattle.calendar_days.specs.declared.Season.the-variants.{Winter, Summer, Transition}
 use Rattle.calendar_days.specs.Days.{monthDay, from, to, season}
-use Rattle.calendar_laws.specs.Seasons.{earlierSeason, FromTo, InWinter, InSummer, InTransition, Exactly, SeasonFacts, SeasonDays, withDay, daysBySeason, yearBySeason, SeasonsSettled}
+use Rattle.calendar_laws.specs.Seasons.{earlierSeason, FromTo, InWinter, InSummer, InTransition, Exactly, SeasonFacts, SeasonDays, withDay, daysBySeason, YearBySeason, SeasonsSettled}
 use Rattle.calendar_laws.proofs.Order.{same-order}
 
 -- dates have the order of their day numbers, where they may be equal
@@ -224,21 +224,13 @@ february year day (suc n) h =
     rw (suc-add (suc n) 306, february-season year day (omega arith), next, february year (day + 1) n (omega arith))
     (same-days (omega arith) refl refl)
 
-year-counted : (year : ℕ) → yearBySeason year ≡ record { winter = 140 + leapDays year; summer = 123; transition = 102 }
+year-counted : (year winter : ℕ) → winter ≡ 140 + leapDays year → YearBySeason year winter
 unfolding plus
-year-counted year =
+year-counted year winter h =
     let n = 27 + leapDays year in
     let all : 365 + leapDays year ≡ 31 + (suc n + 306) = omega arith in
     rw (all, cut 31 (suc n + 306) (on year 1 1), january year, behind-january year, february year 1 n (omega (arith, february-length year)))
     (same-days (omega arith) refl refl)
-
-year-1999 : yearBySeason 1999 ≡ record { winter = 140; summer = 123; transition = 102 }
-unfolding leapDays monthLength nextDay season from to withDay daysBySeason
-year-1999 = refl
-
-year-2000 : yearBySeason 2000 ≡ record { winter = 141; summer = 123; transition = 102 }
-unfolding leapDays monthLength nextDay season from to withDay daysBySeason
-year-2000 = refl
 
 season-facts : (d : Date) → isDate d ≡ true → SeasonFacts d
 season-facts d real =
@@ -251,4 +243,5 @@ season-facts d real =
     }
 
 pub seasons-settled : SeasonsSettled
-seasons-settled = record { dates = season-facts; years = year-counted; year-1999 = year-1999; year-2000 = year-2000 }
+unfolding leapDays monthLength nextDay season from to withDay daysBySeason
+seasons-settled = record { dates = season-facts; years = λ year. year-counted year _ (omega arith); year-1999 = refl; year-2000 = refl }

@@ -62,14 +62,15 @@ unfoldable pub daysBySeason : ℕ → Date → SeasonDays
 daysBySeason zero d = record { winter = 0; summer = 0; transition = 0 }
 daysBySeason (suc n) d = withDay (season d) (daysBySeason n (nextDay d))
 
--- of the 365 or 366 days of a year
-abbrev pub yearBySeason : ℕ → SeasonDays
-yearBySeason year = daysBySeason (365 + leapDays year) (record { year = year; month = 1; day = 1 })
+-- the 365 or 366 days of a year: so many of winter, 123 of summer, 102 of transition
+abbrev pub YearBySeason : ℕ → ℕ → Type 0
+YearBySeason year winter =
+    daysBySeason (365 + leapDays year) (record { year = year; month = 1; day = 1 }) ≡ record { winter = winter; summer = 123; transition = 102 }
 
 -- the theorem, of every date of the span and of every year. Proved in proofs/Seasons.antt.
 pub record SeasonsSettled : Type 0 where
   pub dates : (d : Date) → isDate d ≡ true → SeasonFacts d
-  pub years : (year : ℕ) → yearBySeason year ≡ record { winter = 140 + leapDays year; summer = 123; transition = 102 }
+  pub years : (year : ℕ) → YearBySeason year (140 + leapDays year)
   -- a common and a leap year
-  pub year-1999 : yearBySeason 1999 ≡ record { winter = 140; summer = 123; transition = 102 }
-  pub year-2000 : yearBySeason 2000 ≡ record { winter = 141; summer = 123; transition = 102 }
+  pub year-1999 : YearBySeason 1999 140
+  pub year-2000 : YearBySeason 2000 141
