@@ -1,5 +1,8 @@
-//! The seasons of the whole span, by the exported day enquiry, held to the sentence of source document 000, step 2: "Winter:
-//! 1.11.-20.03., Sommer: 15.05.-14.09. und Übergang: 21.03.-14.05. bzw. 15.09.-31.10."
+//! The seasons of the whole span, by the exported day enquiry, and the words of their definition and code, held to the sentence of
+//! source document 000, step 2: "Winter: 1.11.-20.03., Sommer: 15.05.-14.09. und Übergang: 21.03.-14.05. bzw. 15.09.-31.10."
+mod repository;
+
+use std::fs;
 use std::ops::RangeInclusive;
 
 use slp::Season::{self, Summer, Transition, Winter};
@@ -7,7 +10,7 @@ use slp::Season::{self, Summer, Transition, Winter};
 /// Month and day.
 type MonthDay = (u32, u32);
 
-/// The sentence's stretches of a year in its order, that over New Year in its two parts.
+/// The sentence's stretches of a year in its order, the one over New Year in two parts.
 const STRETCHES: [(Season, RangeInclusive<MonthDay>); 5] = [
     (Winter, (11, 1)..=(12, 31)),
     (Winter, (1, 1)..=(3, 20)),
@@ -47,4 +50,38 @@ fn a_year_has_140_or_141_days_of_winter_123_of_summer_and_102_of_transition() {
             "{year}"
         );
     }
+}
+
+/// The words of a file from a line on to the next empty one: without comments, what only the language wants, and the date's name.
+fn words(file: &str, first_line: &str, comment: &str, passed_over: &[&str]) -> Vec<String> {
+    let text = fs::read_to_string(repository::path(file)).unwrap();
+    let lines = text.lines().skip_while(|line| *line != first_line).skip(1);
+    let code = lines
+        .take_while(|line| !line.is_empty())
+        .filter(|line| !line.trim_start().starts_with(comment));
+    let is_mark = |c: char| c.is_whitespace() || "(),{};:".contains(c);
+    let words = code.flat_map(|line| line.split(is_mark));
+    words
+        .filter(|word| !word.is_empty() && !passed_over.contains(word))
+        .map(str::to_owned)
+        .collect()
+}
+
+#[test]
+fn definition_and_code_ask_in_the_same_words() {
+    let papers = "from 1 11 || to 20 3 Winter from 15 5 && to 14 9 Summer Transition";
+    let definition = words(
+        "crates/calendar_days/specs/Days.antt",
+        "season d =",
+        "--",
+        &["cond", "d"],
+    );
+    assert_eq!(definition.join(" "), papers);
+    let code = words(
+        "crates/calendar_days/src/lib.rt",
+        "    ensures { λ r. ⌜ r ≡ season d ⌝ }",
+        "//",
+        &["if", "return", "Season", "d", "}"],
+    );
+    assert_eq!(code.join(" "), papers);
 }

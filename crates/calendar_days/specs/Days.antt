@@ -1,4 +1,4 @@
--- Document 01, "Calendar", and document 02, (b): seasons, day types and clock changes.
+-- Document 01, "Calendar", and document 02, (b) and (d): seasons, day types and clock changes.
 use mathlib.Core.Bool.{Bool, cond, _&&_, _||_}
 use mathlib.Core.List.{List, _++_}
 use Prim.Native.Nat.{ℕ, _+_, _*_}
@@ -15,24 +15,25 @@ use Rattle.calendar_days.specs.declared.DayKind.{DayKind}
 use Rattle.calendar_days.specs.declared.Clock.{Clock}
 use Rattle.calendar_days.specs.declared.Clock.the-variants.{Unchanged, Forward, Back}
 
--- the place of a date in its year, as mmdd
+-- month and day as one number, mmdd
 abbrev pub monthDay : Date → ℕ
 monthDay d = d .month * 100 + d .day
 
--- whether a date is in its year from a day and month on, and whether it is up to one, that day itself included: 000 writes "1.11." and
--- "20.03."
-unfoldable pub from : Date → ℕ → ℕ → Bool
+-- whether a date is on or after, and on or before, a day and month of its year; day before month, as source document 000 writes "1.11."
+unfoldable pub from : (d : Date) (day month : ℕ) → Bool
 from d day month = leb (month * 100 + day) (monthDay d)
 
-unfoldable pub to : Date → ℕ → ℕ → Bool
+unfoldable pub to : (d : Date) (day month : ℕ) → Bool
 to d day month = leb (monthDay d) (month * 100 + day)
 
--- Source document 000, step 2: "Winter: 1.11.-20.03., Sommer: 15.05.-14.09. und Übergang: 21.03.-14.05. bzw. 15.09.-31.10.", asked in
--- that order (document 02, (d)); winter goes over New Year, and what is left is transition
+-- source document 000, step 2, in its order
 unfoldable pub season : Date → Season
 season d =
+    -- "Winter: 1.11.-20.03.," over New Year, so "or"
     cond (from d 1 11 || to d 20 3) Winter
+    -- "Sommer: 15.05.-14.09. und"
     (cond (from d 15 5 && to d 14 9) Summer
+    -- "Übergang: 21.03.-14.05. bzw. 15.09.-31.10.", what is left
     Transition)
 
 -- "24 or 31 December"

@@ -1,4 +1,4 @@
-// What sort of day a date is: its season, its day type and its clock change (document 01, "Calendar", and document 02, (b)).
+// What sort of day a date is: its season, its day type and its clock change (document 01, "Calendar", and document 02, (b) and (d)).
 use calendar_dates::Date;
 ghost use mathlib.Core.Path.{_≡_};
 ghost use mathlib.Core.Bool.{true};
@@ -31,7 +31,7 @@ pub enum Clock {
     Back,
 }
 
-// The place of a date in its year, as mmdd.
+// Month and day as one number, mmdd.
 fn month_day(d: Date) -> u32
     requires { ⌜ isDate d ≡ true ⌝ }
     ensures { λ r. ⌜ r ≡ monthDay d ⌝ }
@@ -39,7 +39,7 @@ fn month_day(d: Date) -> u32
     d.month * 100 + d.day
 }
 
-// Whether a date is in its year from that day and month on.
+// Whether a date is on or after that day and month of its year.
 fn from(d: Date, day: u32, month: u32) -> bool
     requires { ⌜ (isDate d ≡ true) × (day ≤ 31) × (month ≤ 12) ⌝ }
     ensures { λ r. ⌜ r ≡ from d day month ⌝ }
@@ -47,7 +47,7 @@ fn from(d: Date, day: u32, month: u32) -> bool
     month * 100 + day <= month_day(d)
 }
 
-// Whether a date is in its year up to that day and month, itself included.
+// Whether a date is on or before that day and month of its year.
 fn to(d: Date, day: u32, month: u32) -> bool
     requires { ⌜ (isDate d ≡ true) × (day ≤ 31) × (month ≤ 12) ⌝ }
     ensures { λ r. ⌜ r ≡ to d day month ⌝ }
@@ -55,17 +55,20 @@ fn to(d: Date, day: u32, month: u32) -> bool
     month_day(d) <= month * 100 + day
 }
 
-// Source document 000, step 2, in its order: "Winter: 1.11.-20.03., Sommer: 15.05.-14.09. und Übergang".
+// Source document 000, step 2, in its order.
 pub fn season_of(d: Date) -> Season
     requires { ⌜ isDate d ≡ true ⌝ }
     ensures { λ r. ⌜ r ≡ season d ⌝ }
 {
+    // "Winter: 1.11.-20.03.," over New Year, so "or"
     if from(d, 1, 11) || to(d, 20, 3) {
         return Season::Winter;
     }
+    // "Sommer: 15.05.-14.09. und"
     if from(d, 15, 5) && to(d, 14, 9) {
         return Season::Summer;
     }
+    // "Übergang: 21.03.-14.05. bzw. 15.09.-31.10.", what is left
     Season::Transition
 }
 

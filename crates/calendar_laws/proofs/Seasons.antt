@@ -17,7 +17,7 @@ use Rattle.calendar_dates.proofs.NextDay.{is-same-month, is-next-month}
 use Rattle.calendar_days.specs.declared.Season.{Season}
 use Rattle.calendar_days.specs.declared.Season.the-variants.{Winter, Summer, Transition}
 use Rattle.calendar_days.specs.Days.{monthDay, from, to, season}
-use Rattle.calendar_laws.specs.Seasons.{earlierSeason, FromTo, InWinter, InSummer, InTransition, Exactly, SeasonFacts, SeasonDays, withDay, daysBySeason, YearBySeason, SeasonsSettled}
+use Rattle.calendar_laws.specs.Seasons.{earlierSeason, FromTo, InWinter, InSummer, InTransition, Exactly, SeasonFacts, SeasonDays, withDay, daysBySeason, YearHas, SeasonsSettled}
 use Rattle.calendar_laws.proofs.Order.{same-order}
 
 -- dates have the order of their day numbers, where they may be equal
@@ -33,8 +33,8 @@ same-weak-order a b p q = (to-number (ltb (numberOf b) (numberOf a)) refl, to-da
     to-day false e h = ltb-false (dayNumber b) (dayNumber a) e
 
 -- a day and month of a year
-abbrev on : ℕ → ℕ → ℕ → Date
-on year day month = record { year = year; month = month; day = day }
+abbrev dayOf : (year day month : ℕ) → Date
+dayOf year day month = record { year = year; month = month; day = day }
 
 -- no month is shorter than in a common year
 no-shorter : (year month : ℕ) → monthLength 1999 month ≤ monthLength year month
@@ -46,21 +46,21 @@ no-shorter year month = go (eqb month 2)
     go false = omega arith
 
 -- so a day of a common year is one of every year
-in-year : (d : Date) → isDate d ≡ true → (day month : ℕ) → isDate (on 1999 day month) ≡ true → isDate (on (d .year) day month) ≡ true
+in-year : (d : Date) → isDate d ≡ true → (day month : ℕ) → isDate (dayOf 1999 day month) ≡ true → isDate (dayOf (d .year) day month) ≡ true
 in-year d real day month common =
     let p = parts d real in
-    let q = parts (on 1999 day month) common in
-    is-date (on (d .year) day month) (p .year-from) (p .year-to) (q .month-from) (q .month-to) (q .day-from)
+    let q = parts (dayOf 1999 day month) common in
+    is-date (dayOf (d .year) day month) (p .year-from) (p .year-to) (q .month-from) (q .month-to) (q .day-from)
     (omega (arith, no-shorter (d .year) month))
 
 -- from one day of its year to another, told by mmdd
 module _ (d : Date) (real : isDate d ≡ true) (firstDay firstMonth lastDay lastMonth : ℕ)
-    (first : isDate (on 1999 firstDay firstMonth) ≡ true) (last : isDate (on 1999 lastDay lastMonth) ≡ true) where
-  not-before : Exactly (dayNumber (on (d .year) firstDay firstMonth) ≤ dayNumber d) (numberOf (on (d .year) firstDay firstMonth) ≤ numberOf d)
-  not-before = same-weak-order (on (d .year) firstDay firstMonth) d (in-year d real firstDay firstMonth first) real
+    (first : isDate (dayOf 1999 firstDay firstMonth) ≡ true) (last : isDate (dayOf 1999 lastDay lastMonth) ≡ true) where
+  not-before : Exactly (dayNumber (dayOf (d .year) firstDay firstMonth) ≤ dayNumber d) (numberOf (dayOf (d .year) firstDay firstMonth) ≤ numberOf d)
+  not-before = same-weak-order (dayOf (d .year) firstDay firstMonth) d (in-year d real firstDay firstMonth first) real
 
-  not-after : Exactly (dayNumber d ≤ dayNumber (on (d .year) lastDay lastMonth)) (numberOf d ≤ numberOf (on (d .year) lastDay lastMonth))
-  not-after = same-weak-order d (on (d .year) lastDay lastMonth) real (in-year d real lastDay lastMonth last)
+  not-after : Exactly (dayNumber d ≤ dayNumber (dayOf (d .year) lastDay lastMonth)) (numberOf d ≤ numberOf (dayOf (d .year) lastDay lastMonth))
+  not-after = same-weak-order d (dayOf (d .year) lastDay lastMonth) real (in-year d real lastDay lastMonth last)
 
   by-days : firstMonth * 100 + firstDay ≤ monthDay d → monthDay d ≤ lastMonth * 100 + lastDay → FromTo firstDay firstMonth lastDay lastMonth d
   by-days a b = record { notBefore = omega (arith, not-before .1 (omega arith)); notAfter = omega (arith, not-after .1 (omega arith)) }
@@ -194,15 +194,15 @@ cut zero n d = rw (zero-add n) (same-days (sym (zero-add _)) (sym (zero-add _)) 
 cut (suc m) n d = rw (suc-add, cut m n (nextDay d)) (plus-with (season d) (daysBySeason m (nextDay d)) (daysBySeason n (daysLater m (nextDay d))))
 
 -- a year in three parts, of which February's length is the year's own
-january : (year : ℕ) → daysBySeason 31 (on year 1 1) ≡ record { winter = 31; summer = 0; transition = 0 }
+january : (year : ℕ) → daysBySeason 31 (dayOf year 1 1) ≡ record { winter = 31; summer = 0; transition = 0 }
 unfolding monthLength nextDay season from to withDay daysBySeason
 january year = refl
 
-behind-january : (year : ℕ) → daysLater 31 (on year 1 1) ≡ on year 1 2
+behind-january : (year : ℕ) → daysLater 31 (dayOf year 1 1) ≡ dayOf year 1 2
 unfolding monthLength nextDay daysLater
 behind-january year = refl
 
-from-march : (year : ℕ) → daysBySeason 306 (on year 1 3) ≡ record { winter = 81; summer = 123; transition = 102 }
+from-march : (year : ℕ) → daysBySeason 306 (dayOf year 1 3) ≡ record { winter = 81; summer = 123; transition = 102 }
 unfolding monthLength nextDay season from to withDay daysBySeason
 from-march year = refl
 
@@ -210,27 +210,27 @@ february-length : (year : ℕ) → monthLength year 2 ≡ 28 + leapDays year
 unfolding monthLength
 february-length year = refl
 
-february-season : (year day : ℕ) → day ≤ monthLength year 2 → season (on year day 2) ≡ Winter
-february-season year day h = in-early (on year day 2) (omega (arith, month-small year 2))
+february-season : (year day : ℕ) → day ≤ monthLength year 2 → season (dayOf year day 2) ≡ Winter
+february-season year day h = in-early (dayOf year day 2) (omega (arith, month-small year 2))
 
 -- n days of February and the last one
-february : (year day n : ℕ) → day + n ≡ monthLength year 2 → daysBySeason (suc n + 306) (on year day 2) ≡ record { winter = suc n + 81; summer = 123; transition = 102 }
+february : (year day n : ℕ) → day + n ≡ monthLength year 2 → daysBySeason (suc n + 306) (dayOf year day 2) ≡ record { winter = suc n + 81; summer = 123; transition = 102 }
 unfolding withDay daysBySeason
 february year day zero h =
-    let next : nextDay (on year day 2) ≡ on year 1 3 = is-next-month (on year day 2) (monthLength year 2) refl (omega arith) (omega arith) in
+    let next : nextDay (dayOf year day 2) ≡ dayOf year 1 3 = is-next-month (dayOf year day 2) (monthLength year 2) refl (omega arith) (omega arith) in
     rw (february-season year day (omega arith), next, from-march year)
 february year day (suc n) h =
-    let next : nextDay (on year day 2) ≡ on year (day + 1) 2 = is-same-month (on year day 2) (monthLength year 2) refl (omega arith) in
+    let next : nextDay (dayOf year day 2) ≡ dayOf year (day + 1) 2 = is-same-month (dayOf year day 2) (monthLength year 2) refl (omega arith) in
     rw (suc-add (suc n) 306, february-season year day (omega arith), next, february year (day + 1) n (omega arith))
     (same-days (omega arith) refl refl)
 
-year-counted : (year winter : ℕ) → winter ≡ 140 + leapDays year → YearBySeason year winter
+year-counted : (year winter summer transition : ℕ) → winter ≡ 140 + leapDays year → summer ≡ 123 → transition ≡ 102 → YearHas year winter summer transition
 unfolding plus
-year-counted year winter h =
+year-counted year winter summer transition w s t =
     let n = 27 + leapDays year in
     let all : 365 + leapDays year ≡ 31 + (suc n + 306) = omega arith in
-    rw (all, cut 31 (suc n + 306) (on year 1 1), january year, behind-january year, february year 1 n (omega (arith, february-length year)))
-    (same-days (omega arith) refl refl)
+    rw (all, cut 31 (suc n + 306) (dayOf year 1 1), january year, behind-january year, february year 1 n (omega (arith, february-length year)))
+    (same-days (omega arith) (omega arith) (omega arith))
 
 season-facts : (d : Date) → isDate d ≡ true → SeasonFacts d
 season-facts d real =
@@ -244,4 +244,4 @@ season-facts d real =
 
 pub seasons-settled : SeasonsSettled
 unfolding leapDays monthLength nextDay season from to withDay daysBySeason
-seasons-settled = record { dates = season-facts; years = λ year. year-counted year _ (omega arith); year-1999 = refl; year-2000 = refl }
+seasons-settled = record { dates = season-facts; years = λ year. year-counted year _ _ _ (omega arith) (omega arith) (omega arith); year-1999 = refl; year-2000 = refl }

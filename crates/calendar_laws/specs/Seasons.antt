@@ -2,21 +2,22 @@
 use mathlib.Core.Path.{_≡_}
 use mathlib.Core.Bool.{true, cond, _&&_, _||_}
 use mathlib.Core.Logic.{_⊎_}
-use Prim.Native.Nat.{ℕ, zero, suc, _+_, _≤_}
+use Prim.Native.Nat.{ℕ, zero, suc, _+_, _*_, _≤_}
 use lib.Dec.{leb}
 use Rattle.calendar_dates.specs.declared.Date.{Date}
 use Rattle.calendar_dates.specs.Dates.{leapDays, isDate, dayNumber, nextDay}
 use Rattle.calendar_days.specs.declared.Season.{Season}
 use Rattle.calendar_days.specs.declared.Season.the-variants.{Winter, Summer, Transition}
-use Rattle.calendar_days.specs.Days.{monthDay, season}
+use Rattle.calendar_days.specs.Days.{season}
 
--- the season as it was defined before the request
+-- the season as it was defined before the request, by the number mmdd
 unfoldable pub earlierSeason : Date → Season
 earlierSeason d =
-    cond (leb 1101 (monthDay d) || leb (monthDay d) 320) Winter
-    (cond (leb 515 (monthDay d) && leb (monthDay d) 914) Summer Transition)
+    let mmdd = d .month * 100 + d .day in
+    cond (leb 1101 mmdd || leb mmdd 320) Winter
+    (cond (leb 515 mmdd && leb mmdd 914) Summer Transition)
 
--- a date from one day of its year to another, counted in days, both ends included; day and month as source document 000 has them
+-- a date from one day of its year to another, counted in days, both ends included; day before month, as source document 000 writes them
 pub record FromTo (firstDay firstMonth lastDay lastMonth : ℕ) (d : Date) : Type 0 where
   pub notBefore : dayNumber (record { year = d .year; month = firstMonth; day = firstDay }) ≤ dayNumber d
   pub notAfter : dayNumber d ≤ dayNumber (record { year = d .year; month = lastMonth; day = lastDay })
@@ -33,7 +34,7 @@ InSummer d = FromTo 15 5 14 9 d
 abbrev pub InTransition : Date → Type 0
 InTransition d = FromTo 21 3 14 5 d ⊎ FromTo 15 9 31 10 d
 
--- each of the two tells the other
+-- each holds if the other does
 abbrev pub Exactly : Type 0 → Type 0 → Type 0
 Exactly A B = (A → B) × (B → A)
 
@@ -62,15 +63,15 @@ unfoldable pub daysBySeason : ℕ → Date → SeasonDays
 daysBySeason zero d = record { winter = 0; summer = 0; transition = 0 }
 daysBySeason (suc n) d = withDay (season d) (daysBySeason n (nextDay d))
 
--- the 365 or 366 days of a year: so many of winter, 123 of summer, 102 of transition
-abbrev pub YearBySeason : ℕ → ℕ → Type 0
-YearBySeason year winter =
-    daysBySeason (365 + leapDays year) (record { year = year; month = 1; day = 1 }) ≡ record { winter = winter; summer = 123; transition = 102 }
+-- of the 365 or 366 days of a year
+abbrev pub YearHas : (year winter summer transition : ℕ) → Type 0
+YearHas year winter summer transition =
+    daysBySeason (365 + leapDays year) (record { year = year; month = 1; day = 1 }) ≡ record { winter = winter; summer = summer; transition = transition }
 
--- the theorem, of every date of the span and of every year. Proved in proofs/Seasons.antt.
+-- the theorem, of every date of the span, and of every year by the span's rule for leap years. Proved in proofs/Seasons.antt.
 pub record SeasonsSettled : Type 0 where
   pub dates : (d : Date) → isDate d ≡ true → SeasonFacts d
-  pub years : (year : ℕ) → YearBySeason year (140 + leapDays year)
+  pub years : (year : ℕ) → YearHas year (140 + leapDays year) 123 102
   -- a common and a leap year
-  pub year-1999 : YearBySeason 1999 140
-  pub year-2000 : YearBySeason 2000 141
+  pub year-1999 : YearHas 1999 140 123 102
+  pub year-2000 : YearHas 2000 141 123 102
