@@ -52,36 +52,60 @@ fn a_year_has_140_or_141_days_of_winter_123_of_summer_and_102_of_transition() {
     }
 }
 
-/// The words of a file from a line on to the next empty one: without comments, what only the language wants, and the date's name.
-fn words(file: &str, first_line: &str, comment: &str, passed_over: &[&str]) -> Vec<String> {
+/// What follows a line of a file, up to the next empty line: the comments, and the words of the rest, but for those that only the
+/// language wants and the date's name.
+fn comments_and_words(
+    file: &str,
+    line_before: &str,
+    comment: &str,
+    passed_over: &[&str],
+) -> (Vec<String>, String) {
     let text = fs::read_to_string(repository::path(file)).unwrap();
-    let lines = text.lines().skip_while(|line| *line != first_line).skip(1);
-    let code = lines
+    let behind = text.lines().skip_while(|line| *line != line_before).skip(1);
+    let lines: Vec<&str> = behind
         .take_while(|line| !line.is_empty())
-        .filter(|line| !line.trim_start().starts_with(comment));
+        .map(str::trim_start)
+        .collect();
+    let comments = lines.iter().filter_map(|line| line.strip_prefix(comment));
+    let code = lines.iter().filter(|line| !line.starts_with(comment));
     let is_mark = |c: char| c.is_whitespace() || "(),{};:".contains(c);
     let words = code.flat_map(|line| line.split(is_mark));
-    words
+    let kept: Vec<&str> = words
         .filter(|word| !word.is_empty() && !passed_over.contains(word))
-        .map(str::to_owned)
-        .collect()
+        .collect();
+    (comments.map(str::to_owned).collect(), kept.join(" "))
 }
 
 #[test]
 fn definition_and_code_ask_in_the_same_words() {
-    let papers = "from 1 11 || to 20 3 Winter from 15 5 && to 14 9 Summer Transition";
-    let definition = words(
+    let definition = comments_and_words(
         "crates/calendar_days/specs/Days.antt",
         "season d =",
         "--",
         &["cond", "d"],
     );
-    assert_eq!(definition.join(" "), papers);
-    let code = words(
+    let code = comments_and_words(
         "crates/calendar_days/src/lib.rt",
         "    ensures { λ r. ⌜ r ≡ season d ⌝ }",
         "//",
-        &["if", "return", "Season", "d", "}"],
+        &["if", "return", "Season", "d"],
     );
-    assert_eq!(code.join(" "), papers);
+    assert_eq!(definition, code);
+    let (comments, words) = code;
+    assert_eq!(
+        words,
+        "from 1 11 || to 20 3 Winter from 15 5 && to 14 9 Summer Transition"
+    );
+    let quotations: Vec<&str> = comments
+        .iter()
+        .filter_map(|comment| comment.split('"').nth(1))
+        .collect();
+    assert_eq!(
+        quotations,
+        [
+            "Winter: 1.11.-20.03.",
+            "Sommer: 15.05.-14.09.",
+            "Übergang: 21.03.-14.05. bzw. 15.09.-31.10."
+        ]
+    );
 }

@@ -29,11 +29,11 @@ to d day month = leb (monthDay d) (month * 100 + day)
 -- source document 000, step 2, in its order
 unfoldable pub season : Date → Season
 season d =
-    -- "Winter: 1.11.-20.03.," over New Year, so "or"
+    -- "Winter: 1.11.-20.03.": over New Year, so either of its two parts
     cond (from d 1 11 || to d 20 3) Winter
-    -- "Sommer: 15.05.-14.09. und"
+    -- "Sommer: 15.05.-14.09."
     (cond (from d 15 5 && to d 14 9) Summer
-    -- "Übergang: 21.03.-14.05. bzw. 15.09.-31.10.", what is left
+    -- "Übergang: 21.03.-14.05. bzw. 15.09.-31.10.": what is left, by the theorem SeasonsSettled
     Transition)
 
 -- "24 or 31 December"

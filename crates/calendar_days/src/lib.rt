@@ -60,15 +60,15 @@ pub fn season_of(d: Date) -> Season
     requires { ⌜ isDate d ≡ true ⌝ }
     ensures { λ r. ⌜ r ≡ season d ⌝ }
 {
-    // "Winter: 1.11.-20.03.," over New Year, so "or"
+    // "Winter: 1.11.-20.03.": over New Year, so either of its two parts
     if from(d, 1, 11) || to(d, 20, 3) {
         return Season::Winter;
     }
-    // "Sommer: 15.05.-14.09. und"
+    // "Sommer: 15.05.-14.09."
     if from(d, 15, 5) && to(d, 14, 9) {
         return Season::Summer;
     }
-    // "Übergang: 21.03.-14.05. bzw. 15.09.-31.10.", what is left
+    // "Übergang: 21.03.-14.05. bzw. 15.09.-31.10.": what is left, by the theorem SeasonsSettled
     Season::Transition
 }
 
