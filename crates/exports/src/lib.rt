@@ -21,6 +21,7 @@ ghost use Rattle.call_day.specs.Enquiry.{dayEnquiry, reported as reportedDay};
 ghost use Rattle.call_request.specs.Request.{request};
 ghost use Rattle.call_expand.specs.Expanding.{Reports};
 ghost use Rattle.call_deliveries.specs.Deliveries.{deliveries, Reports as DeliveriesReports};
+ghost use Rattle.call_page.specs.Page.{Reports as PageReports};
 ghost use Rattle.program_response.specs.Responding.{responseTo, pageAfter, reported as reportedResponse};
 
 // Questions 1 to 6.
@@ -137,6 +138,25 @@ pub extern "C" fn slp_deliveries(
         yearly,
         out,
     ))
+}
+
+// The day page.
+#[no_mangle]
+pub extern "C" fn slp_page(
+    file: &[u8],
+    group: u8,
+    first: u32,
+    last: u32,
+    holidays: &[u32],
+    yearly: u32,
+    carry: u32,
+    page: &mut [u8],
+) -> ExpansionReport
+    ensures { λ r. ⌜ PageReports
+        (request (now (file .entry)) group first last (now (holidays .entry)) yearly carry (now (page .entry))) r (now (page .exit)) ⌝ }
+{
+    let answer = call_page::day_page(file, group, first, last, holidays, yearly, carry, page);
+    call_expansion::report(answer)
 }
 
 // What the program prints for an input.

@@ -13,28 +13,30 @@ use Rattle.day_powers.specs.DayQuarters.{basis}
 use Rattle.call_request.specs.Request.{Request, daysIn, basisOf, series, requestCheck}
 use Rattle.call_request.proofs.Request.{sound, series-length}
 use Rattle.call_expand.specs.Expanding.{totals}
+use Rattle.call_rows.specs.Rows.{rowsOf}
 use Rattle.text.specs.Inside.{Put}
 use Rattle.text.proofs.Puts.{put-put}
-use Rattle.program_lines.specs.Lines.{lastLine}
-use Rattle.program_listing.specs.declared.Lines.{Lines}
-use Rattle.program_listing.specs.Listing.{dayLines}
-use Rattle.program_listing.specs.Inside.{Listed}
-use Rattle.program_listing.proofs.Listing.{last-line-short}
-use Rattle.program_answer.specs.Accepted.{rowsOf, acceptedLines, pageLength}
+use Rattle.text_program_lines.specs.Lines.{dayLine, lastLine}
+use Rattle.text_listing.specs.declared.Form.the-variants.{Program}
+use Rattle.text_listing.specs.declared.Lines.{Lines}
+use Rattle.text_listing.specs.Listing.{lineAfterLine}
+use Rattle.text_listing.specs.Inside.{Listed}
+use Rattle.text_listing.proofs.Listing.{last-line-short}
+use Rattle.program_answer.specs.Accepted.{acceptedLines, pageLength}
 
 -- an accepted request
 module _ (q : Request) (passed : requestCheck q ≡ Pass) where
   sums : {before after : List ℕ} {r : Lines} →
-      Listed (basisOf q) (q .yearly) (q .carry) (daysIn q) (dateOf (q .first)) before r after → r .totals ≡ totals q
+      Listed Program (basisOf q) (q .yearly) (q .carry) (daysIn q) (dateOf (q .first)) before r after → r .totals ≡ totals q
   unfolding series
   sums l = rw (series-length q) (l .totals)
 
   pub accepted : {values before middle after : List ℕ} {day : CalendarDay} {days s : ℕ} {r : Lines} → values ≡ tableOf (q .file) (q .group) →
       day ≡ calendarDay (dateOf (q .first)) → days ≡ daysIn q →
-      Listed (basis values (q .group) (q .holidays)) (q .yearly) (q .carry) days (day .date) before r middle →
+      Listed Program (basis values (q .group) (q .holidays)) (q .yearly) (q .carry) days (day .date) before r middle →
       Put (lastLine days (r .totals)) middle (r .at) s after → pageLength ≤ length before → Put (acceptedLines q) before 0 s after
   accepted {before = before} {middle} {r = r} v e f l last room =
       let lines = rw (v, e, f) at l in
-      let days : Put (dayLines (q .holidays) (rowsOf q)) before 0 (r .at) middle = lines .lines in
+      let days : Put (lineAfterLine dayLine (q .holidays) (rowsOf q)) before 0 (r .at) middle = lines .lines in
       let few = sound q passed .period .short in
       (put-put days (rw (f, sums lines) at last) (omega (arith, last-line-short (daysIn q) (totals q))))

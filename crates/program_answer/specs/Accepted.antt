@@ -1,19 +1,15 @@
 -- Document 01, "The program": the lines of an accepted request.
 use mathlib.Core.List.{List, _++_}
 use Prim.Native.Nat.{ℕ}
-use Rattle.calendar_dates.specs.Dates.{dateOf}
-use Rattle.call_request.specs.Request.{Request, daysIn, basisOf}
+use Rattle.call_request.specs.Request.{Request, daysIn}
 use Rattle.call_expand.specs.Expanding.{totals}
-use Rattle.program_lines.specs.Lines.{Row, lastLine}
-use Rattle.program_listing.specs.Listing.{rows, dayLines}
+use Rattle.call_rows.specs.Rows.{rowsOf}
+use Rattle.text_program_lines.specs.Lines.{dayLine, lastLine}
+use Rattle.text_listing.specs.Listing.{lineAfterLine}
 
--- "Then it expands day by day": a request's rows; "from carry 0", which an input's request has
-abbrev pub rowsOf : Request → List Row
-rowsOf q = rows (basisOf q) (q .yearly) (daysIn q) (dateOf (q .first)) (q .carry)
-
--- a line "for each day", then "the last line"
+-- "Then it expands day by day" from the request's carry, 0 for an input's: a line "for each day", then "the last line"
 abbrev pub acceptedLines : Request → List ℕ
-acceptedLines q = dayLines (q .holidays) (rowsOf q) ++ lastLine (daysIn q) (totals q)
+acceptedLines q = lineAfterLine dayLine (q .holidays) (rowsOf q) ++ lastLine (daysIn q) (totals q)
 
 -- the room that is enough for every input, by our own choice: 1,461 days have lines of at most 39 bytes, and a last line of at most 90
 abbrev pub pageLength : ℕ

@@ -1,5 +1,6 @@
 // The lines that answer a request (document 01, "The program"): those of its days and the last one, or the refusal.
 use call_open::Opened;
+use text_listing::Form;
 ghost use mathlib.Core.List.{[]};
 ghost use Prim.Native.Nat.{_≤_};
 ghost use lib.ListN.{length};
@@ -30,6 +31,16 @@ pub fn put_answer(
     let values = file_read::table_at(file, opening.at);
     let day = opening.first;
     let days = opening.days;
-    let lines = program_listing::list_days(&values, group, day, days, holidays, yearly, 0, page);
-    program_lines::put_last_line(days, lines.totals, page, lines.at)
+    let lines = text_listing::list_days(
+        Form::Program,
+        &values,
+        group,
+        day,
+        days,
+        holidays,
+        yearly,
+        0,
+        page,
+    );
+    text_program_lines::put_last_line(days, lines.totals, page, lines.at)
 }

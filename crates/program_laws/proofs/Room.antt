@@ -16,19 +16,20 @@ use Rattle.file_group.proofs.Group.{table-length}
 use Rattle.call_request.specs.Request.{Request, daysIn, basisOf, requestCheck}
 use Rattle.call_request.proofs.Request.{sound}
 use Rattle.call_expand.specs.Expanding.{totals}
+use Rattle.call_rows.specs.Rows.{rowsOf}
 use Rattle.text.proofs.Text.{decimal-most}
+use Rattle.text_program_lines.specs.Lines.{dayLine, lastLine}
+use Rattle.text_listing.specs.Listing.{lineAfterLine}
+use Rattle.text_listing.proofs.Listing.{last-line-short, lines-short}
 use Rattle.program_input.specs.Input.{inputQuestion, requestIn}
-use Rattle.program_lines.specs.Lines.{lastLine}
 use Rattle.program_refusal.specs.Refused.{refusedLine}
-use Rattle.program_listing.specs.Listing.{dayLines}
-use Rattle.program_listing.proofs.Listing.{last-line-short, lines-short}
-use Rattle.program_answer.specs.Accepted.{rowsOf, pageLength}
+use Rattle.program_answer.specs.Accepted.{pageLength}
 use Rattle.program_answer.specs.Answer.{linesFor}
 use Rattle.program_text.specs.Printed.{printed}
 use Rattle.program_response.specs.declared.Response.{Response}
 use Rattle.program_response.specs.declared.Response.the-variants.{Written}
 use Rattle.program_response.specs.Responding.{responseCheck, answered, responseTo}
-use Rattle.program_laws.specs.Lines.{EnoughRoom}
+use Rattle.program_laws.specs.Room.{EnoughRoom}
 
 values-of-table : (q : Request) → length (tableOf (q .file) (q .group)) ≡ 864
 unfolding layoutOf
@@ -39,7 +40,7 @@ unfolding linesFor refusedLine
 lines-room q Pass h =
     let days = sound q (h refl) .period .short in
     let lines = lines-short (basisOf q) (q .yearly) (daysIn q) (dateOf (q .first)) (q .carry) (values-of-table q) in
-    omega (arith, lines, days, last-line-short (daysIn q) (totals q), length-append (dayLines (q .holidays) (rowsOf q)) (lastLine (daysIn q) (totals q)))
+    omega (arith, lines, days, last-line-short (daysIn q) (totals q), length-append (lineAfterLine dayLine (q .holidays) (rowsOf q)) (lastLine (daysIn q) (totals q)))
 lines-room q (Refused r) h = simp length-append (omega (arith, decimal-most (refusalNumber r), decimal-most (refusalPlace r)))
 
 pub enough-room : EnoughRoom

@@ -1,1 +1,1 @@
-// Theorems about the program's lines: they add up and join, they say what expanding answers, and they have room. There is no code.
+// The theorem that a page has room for what the program prints, whatever its input. There is no code.

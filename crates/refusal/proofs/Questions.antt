@@ -13,7 +13,7 @@ use Rattle.refusal.specs.declared.Verdict.the-variants.{Pass, Refused}
 use Rattle.refusal.specs.declared.Refusal.{Refusal}
 use Rattle.refusal.specs.declared.Refusal.the-variants.{NoMark, WrongVersion, WrongLength, BadCode, BadValue, NoGroup, BadDate}
 use Rattle.refusal.specs.declared.Refusal.the-variants.{BadPeriod, BadHoliday, BadUse, BadCarry, ShortOutput, BadInput}
-use Rattle.refusal.specs.declared.Refusal.the-variants.{BadYear, BadChoice, ShortList, WrongReadings, BadFirstDate}
+use Rattle.refusal.specs.declared.Refusal.the-variants.{BadYear, BadChoice, ShortList, WrongReadings, BadFirstDate, ShortPage}
 use Rattle.refusal.specs.Questions.{refusalNumber, reported, ask, _then_, askEach, roomQuestion, onPass}
 use Rattle.refusal.proofs.Verdict.{enum}
 
@@ -201,3 +201,4 @@ number-above-0 BadChoice = refl
 number-above-0 (ShortList needed) = refl
 number-above-0 WrongReadings = refl
 number-above-0 (BadFirstDate index) = refl
+number-above-0 (ShortPage needed) = refl

@@ -8,7 +8,7 @@ use lib.ListN.{length, drop}
 use Rattle.refusal.specs.declared.Refusal.{Refusal}
 use Rattle.refusal.specs.declared.Refusal.the-variants.{NoMark, WrongVersion, WrongLength, BadCode, BadValue, NoGroup, BadDate}
 use Rattle.refusal.specs.declared.Refusal.the-variants.{BadPeriod, BadHoliday, BadUse, BadCarry, ShortOutput, BadInput}
-use Rattle.refusal.specs.declared.Refusal.the-variants.{BadYear, BadChoice, ShortList, WrongReadings, BadFirstDate}
+use Rattle.refusal.specs.declared.Refusal.the-variants.{BadYear, BadChoice, ShortList, WrongReadings, BadFirstDate, ShortPage}
 use Rattle.refusal.specs.declared.CheckReport.{CheckReport}
 use Rattle.refusal.specs.declared.Verdict.{Verdict}
 use Rattle.refusal.specs.declared.Verdict.the-variants.{Pass, Refused}
@@ -34,6 +34,7 @@ refusalNumber BadChoice = 15
 refusalNumber (ShortList needed) = 16
 refusalNumber WrongReadings = 17
 refusalNumber (BadFirstDate index) = 18
+refusalNumber (ShortPage needed) = 19
 
 -- "Place is 0 where none is named."
 abbrev pub refusalPlace : Refusal → ℕ
@@ -55,6 +56,7 @@ refusalPlace BadChoice = 0
 refusalPlace (ShortList needed) = needed
 refusalPlace WrongReadings = 0
 refusalPlace (BadFirstDate index) = index
+refusalPlace (ShortPage needed) = needed
 
 -- "number and place, both 0 when all pass"
 abbrev pub number : Verdict → ℕ

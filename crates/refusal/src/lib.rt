@@ -22,6 +22,7 @@ pub enum Refusal {
     ShortList(usize),
     WrongReadings,
     BadFirstDate(usize),
+    ShortPage(usize),
 }
 
 // Every question asked passed, or the first one that did not.
@@ -60,6 +61,7 @@ pub fn number_of(r: Refusal) -> u32
         Refusal::ShortList(_) => 16,
         Refusal::WrongReadings => 17,
         Refusal::BadFirstDate(_) => 18,
+        Refusal::ShortPage(_) => 19,
     }
 }
 
@@ -86,6 +88,7 @@ pub fn place_of(r: Refusal) -> usize
         Refusal::ShortList(needed) => needed,
         Refusal::WrongReadings => 0,
         Refusal::BadFirstDate(index) => index,
+        Refusal::ShortPage(needed) => needed,
     }
 }
 

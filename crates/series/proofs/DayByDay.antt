@@ -56,15 +56,21 @@ module _ {yearly : ℕ} {whole : List ℕ} {carry : ℕ} {entry : List ℕ} wher
   pub kept-length : {left : List ℕ} {soFar : Totals} {out : List ℕ} → Left yearly whole carry entry left soFar out → length out ≡ length entry
   kept-length l = omega (arith, simp length-sets at (ap length (l .figuresLeft)))
 
+  -- what the next powers come to is a part of the whole
+  next-part : (first rest : List ℕ) {soFar : Totals} {out : List ℕ} → Left yearly whole carry entry (first ++ rest) soFar out →
+      soFar .total + sum (figures yearly first (soFar .carry)) ≤ sum (figures yearly whole carry)
+  next-part first rest {soFar} l =
+      let parts = sum-append (figures yearly first (soFar .carry)) (figures yearly rest (lastCarry yearly first (soFar .carry))) in
+      omega (arith, rw (figures-append yearly first rest) at (l .totalLeft))
+
   -- the next powers have room
   next-room : (first rest : List ℕ) {soFar : Totals} {out : List ℕ} →
       Left yearly whole carry entry (first ++ rest) soFar out → Room yearly first soFar out
   next-room first rest {soFar} l =
       let kept = kept-length l in
-      let parts = sum-append (figures yearly first (soFar .carry)) (figures yearly rest (lastCarry yearly first (soFar .carry))) in
       record {
         entries = omega (arith, l .countLeft, length-append first rest);
-        total = omega (arith, rw (figures-append yearly first rest) at (l .totalLeft));
+        total = omega (arith, next-part first rest l, l .fits);
       }
 
   -- the next powers, stored and added
@@ -139,16 +145,21 @@ module _ (b : Basis) (sound : GroupValues (b .values)) where
       (each-append _ (dayPowers b d) (powersFrom b n (nextDay d))
       (day-small d (all-first (suc n) d h (omega arith))) (all-small n (nextDay d) (rw one at (all-next (suc n) d h))))
 
-  -- the total fits an i64, and so 64 bits
-  pub whole-small : {yearly carry : ℕ} {first : CalendarDay} {days : ℕ} → InRange yearly carry → RealDays first days →
-      sum (figures yearly (powersFrom b days (first .date)) carry) < 2 ^ 63
-  whole-small {yearly} {carry} {first} {days} range real =
+  -- the total is at most 10^9 Wh for each of 146,100 quarter hours
+  pub whole-most : {yearly carry : ℕ} {first : CalendarDay} {days : ℕ} → InRange yearly carry → RealDays first days →
+      sum (figures yearly (powersFrom b days (first .date)) carry) ≤ 146_100 * 10 ^ 9
+  whole-most {yearly} {carry} {first} {days} range real =
       let all = powersFrom b days (first .date) in
       let few = real .few in
       let many = length-quarters b days (first .date) (sound .whole) in
       let count : length all ≤ 146_100 = omega (arith, length-powers b days (first .date), values-small days (first .date)) in
       let limit : sum all ≤ 40_000 * 146_100 = omega (arith, sum-small all (all-small days (first .date) (real .all))) in
       omega (arith, telescope yearly carry all, mul-le-mul (range .yearlySmall) limit, range .carrySmall)
+
+  -- so it fits an i64, and 64 bits
+  pub whole-small : {yearly carry : ℕ} {first : CalendarDay} {days : ℕ} → InRange yearly carry → RealDays first days →
+      sum (figures yearly (powersFrom b days (first .date)) carry) < 2 ^ 63
+  whole-small range real = omega (arith, whole-most range real)
 
   pub whole-fits : {yearly carry : ℕ} {first : CalendarDay} {days : ℕ} → InRange yearly carry → RealDays first days →
       sum (figures yearly (powersFrom b days (first .date)) carry) < 2 ^ 64
@@ -173,6 +184,9 @@ module _ {b : Basis} {yearly : ℕ} {whole : List ℕ} {carry : ℕ} {entry : Li
 
     pub day-room : Room yearly (dayPowers b (day .date)) soFar out
     day-room = next-room _ (powersFrom b (left - 1) (nextDay (day .date))) split
+
+    pub day-part : soFar .total + sum (figures yearly (dayPowers b (day .date)) (soFar .carry)) ≤ sum (figures yearly whole carry)
+    day-part = next-part _ (powersFrom b (left - 1) (nextDay (day .date))) split
 
     pub day-turn : {r : Totals} {after : List ℕ} {next : CalendarDay} → Added yearly (dayPowers b (day .date)) soFar out r after →
         next ≡ calendarDay (nextDay (day .date)) → DaysLeft b yearly whole carry entry next (left - 1) r after

@@ -3,7 +3,7 @@
 -- Assumes nothing.
 use mathlib.Core.Path.{_≡_, refl}
 use mathlib.Core.List.{List}
-use Prim.Native.Nat.{ℕ, _+_, _-_, _^_, _≤_, _<_}
+use Prim.Native.Nat.{ℕ, _+_, _-_, _*_, _^_, _≤_, _<_}
 use native.Mathlib.Omega.{arith}
 use lib.ListN.{length}
 use Rattle.lists.specs.Lists.{sum}
@@ -22,7 +22,7 @@ use Rattle.day_powers.specs.DayQuarters.{Basis}
 use Rattle.series.specs.Inside.{GroupValues, InList, InRange}
 use Rattle.series.proofs.Series.{length-quarters}
 use Rattle.series.proofs.OneDay.{dayPowers}
-use Rattle.series.proofs.DayByDay.{start, kept-length, powersFrom, length-powers, whole-fits, DaysLeft, all-done, this-day, day-room, day-turn}
+use Rattle.series.proofs.DayByDay.{start, kept-length, powersFrom, length-powers, whole-most, whole-fits, DaysLeft, all-done, this-day, day-room, day-part, day-turn}
 use Rattle.series_totals.specs.declared.DayTotals.{DayTotals}
 use Rattle.series_totals.specs.Inside.{comesTo}
 
@@ -32,6 +32,7 @@ pub record TotalsLeft (b : Basis) (yearly carry days : ℕ) (first : Date) (day 
   pub out : List ℕ
   pub daysLeft : DaysLeft b yearly (powersFrom b days first) carry (powersFrom b days first) day left soFar out
   pub few : length (powersFrom b days first) ≤ 146_100
+  pub most : sum (figures yearly (powersFrom b days first) carry) ≤ 146_100 * 10 ^ 9
 
 pub none-summed : (b : Basis) (sound : GroupValues (b .values)) {yearly carry days : ℕ} {day : CalendarDay} → RealDays day days → InRange yearly carry →
     TotalsLeft b yearly carry days (day .date) day days (record { count = 0; total = 0; carry = carry })
@@ -41,6 +42,7 @@ none-summed b sound {days = days} {day} real range =
       out = powersFrom b days (day .date);
       daysLeft = record { real = real; todo = start (range .carrySmall) (omega arith) (whole-fits b sound range real) };
       few = omega (arith, length-powers b days (day .date), length-quarters b days (day .date) (sound .whole), values-small days (day .date));
+      most = whole-most b sound range real;
     }
 
 module _ {b : Basis} {yearly carry days : ℕ} {first : Date} {day : CalendarDay} {left : ℕ} {soFar : Totals}
@@ -61,8 +63,8 @@ module _ {b : Basis} {yearly carry days : ℕ} {first : Date} {day : CalendarDay
     pub count-fits : soFar .count + length (dayPowers b (day .date)) ≤ 146_100
     count-fits = omega (arith, day-room (l .daysLeft) some .entries, kept-length (l .daysLeft .todo), l .few)
 
-    pub total-fits : soFar .total + sum (figures yearly (dayPowers b (day .date)) (soFar .carry)) < 2 ^ 64
-    total-fits = day-room (l .daysLeft) some .total
+    pub total-fits : soFar .total + sum (figures yearly (dayPowers b (day .date)) (soFar .carry)) ≤ 146_100 * 10 ^ 9
+    total-fits = omega (arith, day-part (l .daysLeft) some, l .most)
 
     -- and are added
     pub day-added : {r : Totals} {next : CalendarDay} →
@@ -75,11 +77,12 @@ module _ {b : Basis} {yearly carry days : ℕ} {first : Date} {day : CalendarDay
           out = _;
           daysLeft = day-turn (l .daysLeft) some (record { stored = refl; count = count; total = total; carry = carry }) e;
           few = l .few;
+          most = l .most;
         }
 
     -- the same of the day worked out
     module _ {kind : DayKind} {today : DayTotals} (e : today ≡ record { kind = kind; totals = comesTo yearly (dayPowers b (day .date)) (soFar .carry) }) where
-      pub sums-fit : (soFar .count + today .totals .count ≤ 146_100) × (soFar .total + today .totals .total < 2 ^ 64)
+      pub sums-fit : (soFar .count + today .totals .count ≤ 146_100) × (soFar .total + today .totals .total ≤ 146_100 * 10 ^ 9)
       sums-fit = rw e (count-fits, total-fits)
 
       pub day-summed : {next : CalendarDay} → next ≡ calendarDay (nextDay (day .date)) → TotalsLeft b yearly carry days first next (left - 1)

@@ -48,10 +48,9 @@ pub fn put_two_digits(n: u32, page: &mut [u8], at: usize) -> usize
     at + 2
 }
 
-// Puts a number in decimal.
-pub fn put_decimal(n: u64, page: &mut [u8], at: usize) -> usize
-    requires { ⌜ at + 20 ≤ length (now page) ⌝ }
-    ensures { λ r. ⌜ Put (decimal n) (now (page .entry)) at r (now (page .exit)) ⌝ }
+// How many digits a number has in decimal.
+pub fn digit_count(n: u64) -> usize
+    ensures { λ r. ⌜ r ≡ length (decimal n) ⌝ }
 {
     let mut places: usize = 1;
     let mut rest = n / 10;
@@ -59,11 +58,11 @@ pub fn put_decimal(n: u64, page: &mut [u8], at: usize) -> usize
         rest /= 10;
         places += 1;
     }
-    put_last_digits(n, places, page, at)
+    places
 }
 
 // Puts the last digits of a number, as many as `places` says.
-fn put_last_digits(n: u64, places: usize, page: &mut [u8], at: usize) -> usize
+pub fn put_last_digits(n: u64, places: usize, page: &mut [u8], at: usize) -> usize
     requires { ⌜ at + places ≤ length (now page) ⌝ }
     ensures { λ r. ⌜ Put (lastDigits places n) (now (page .entry)) at r (now (page .exit)) ⌝ }
 {
@@ -75,6 +74,14 @@ fn put_last_digits(n: u64, places: usize, page: &mut [u8], at: usize) -> usize
         rest /= 10;
     }
     at + places
+}
+
+// Puts a number in decimal.
+pub fn put_decimal(n: u64, page: &mut [u8], at: usize) -> usize
+    requires { ⌜ at + 20 ≤ length (now page) ⌝ }
+    ensures { λ r. ⌜ Put (decimal n) (now (page .entry)) at r (now (page .exit)) ⌝ }
+{
+    put_last_digits(n, digit_count(n), page, at)
 }
 
 // Puts a date as yyyy-mm-dd.

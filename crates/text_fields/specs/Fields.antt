@@ -19,3 +19,7 @@ dayTypeText kind = seasonLetter (kind .season) ∷ digit (dayTypeDigit (kind .«
 -- a number behind the field before it: "fields are split by one space"
 abbrev pub field : ℕ → List ℕ
 field n = space ∷ decimal n
+
+-- "the word total", in ASCII
+abbrev pub totalWord : List ℕ
+totalWord = 116 ∷ 111 ∷ 116 ∷ 97 ∷ 108 ∷ []

@@ -1,0 +1,19 @@
+-- A field has its width. Assumes nothing.
+use mathlib.Core.Path.{_≡_}
+use mathlib.Core.List.{List}
+use Prim.Native.Nat.{ℕ, _-_, _^_, _≤_, _<_}
+use native.Mathlib.Omega.{arith}
+use lib.ListN.{length, length-append, length-replicate}
+use Rattle.text.specs.Text.{space, decimal}
+use Rattle.text.proofs.Text.{decimal-short}
+use Rattle.text_columns.specs.Columns.{blanks, rightAligned, leftAligned}
+
+pub length-right : (width n : ℕ) → 1 ≤ width → n < 10 ^ width → length (rightAligned width n) ≡ width
+unfolding rightAligned
+length-right width n some fits =
+    omega (
+      arith,
+      length-append (blanks (width - length (decimal n))) (decimal n),
+      length-replicate (width - length (decimal n)) space,
+      decimal-short n width fits some,
+    )
