@@ -12,11 +12,11 @@ use Rattle.calendar_period.specs.Inside.{calendarDay}
 use Rattle.calendar_period.proofs.Period.{values-small}
 use Rattle.carry.specs.Carry.{largestUse, largestCarry, figures}
 use Rattle.carry.specs.Energy.{powers}
-use Rattle.series.proofs.DayByDay.{Small, all-small, whole-fits}
+use Rattle.series.proofs.DayByDay.{Small, all-small, whole-most, whole-fits}
 use Rattle.call_request.specs.Request.{daysIn, basisOf, quarters, series}
 use Rattle.call_request.proofs.Request.{sound, entries-needed}
 use Rattle.call_open.proofs.Given.{answers-request, table-values, opened-for}
-use Rattle.call_request_laws.specs.Fits.{FiguresFit, LongestSeries}
+use Rattle.call_request_laws.specs.Fits.{FiguresFit, LongestSeries, LargestTotal}
 
 -- small powers make small figures
 figures-small : (yearly : ℕ) (ps : List ℕ) (carry : ℕ) → yearly ≤ largestUse → carry ≤ largestCarry → Small ps → Each (λ figure. figure < 2 ^ 32) (figures yearly ps carry)
@@ -40,3 +40,11 @@ figures-fit q h =
 pub longest-series : LongestSeries
 unfolding LongestSeries
 longest-series q h = omega (arith, entries-needed q, values-small (daysIn q) (dateOf (q .first)), sound q h .period .short)
+
+pub largest-total : LargestTotal
+unfolding LargestTotal series
+largest-total q h =
+    let opened = opened-for q (answers-request h refl) in
+    let s = opened .sound in
+    whole-most (basisOf q) (table-values (q .file) (q .group) (opened .found .checked)) {first = calendarDay (dateOf (q .first))}
+    (record { yearlySmall = s .yearly; carrySmall = s .carry }) (opened .real)

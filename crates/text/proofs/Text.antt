@@ -28,7 +28,7 @@ front-some zero n h = refl
 front-some (suc k) zero h = absurd (omega arith)
 front-some (suc k) (suc n) h = refl
 
-digits-last : (k n : ℕ) → digits (suc k) n ≡ front k (n / 10) ++ (digit (n % 10) ∷ [])
+pub digits-last : (k n : ℕ) → digits (suc k) n ≡ front k (n / 10) ++ (digit (n % 10) ∷ [])
 unfolding digits
 digits-last k n =
     ⊎-elim
