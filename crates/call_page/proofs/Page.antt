@@ -15,12 +15,12 @@ use Rattle.calendar_period.specs.declared.CalendarDay.{CalendarDay}
 use Rattle.calendar_period.specs.Inside.{calendarDay}
 use Rattle.file_group.specs.Group.{tableOf}
 use Rattle.day_powers.specs.DayQuarters.{basis}
-use Rattle.call_request.specs.Request.{Request, daysIn, basisOf, series, requestCheck}
-use Rattle.call_request.proofs.Request.{series-length}
+use Rattle.call_request.specs.Request.{Request, daysIn, requestCheck}
 use Rattle.call_expansion.specs.declared.Expansion.{Expansion}
 use Rattle.call_expansion.specs.Answered.{reported}
 use Rattle.call_expand.specs.Expanding.{totals}
 use Rattle.call_rows.specs.Rows.{rowsOf}
+use Rattle.call_rows.proofs.Rows.{totals-by-quarters}
 use Rattle.text.specs.Inside.{Put}
 use Rattle.text.proofs.Puts.{put-put}
 use Rattle.text_page_lines.specs.PageLines.{dayTypeWidth, lineLength, dayPageLine, lastPageLine}
@@ -61,11 +61,6 @@ module _ (q : Request) where
   unfolding pageCheck
   page-refused p e = refused (then-pass _ p ∙ e)
 
-  sums : {before after : List ℕ} {r : Lines} →
-      Listed Page (basisOf q) (q .yearly) (q .carry) (daysIn q) (dateOf (q .first)) before r after → r .totals ≡ totals q
-  unfolding series
-  sums l = rw (series-length q) (l .totals)
-
   -- by none: the lines of the days, and the last one behind them
   pub printed : {values middle after : List ℕ} {day : CalendarDay} {days s : ℕ} {r : Lines} → requestCheck q ≡ Pass →
       pageQuestion (daysIn q) (length (q .output)) ≡ Pass →
@@ -76,7 +71,7 @@ module _ (q : Request) where
   printed {middle = middle} {after} {s = s} {r} p asked v e f l last =
       let room = page-passed (daysIn q) (length (q .output)) asked in
       let lines = rw (v, e, f) at l in
-      let all = sums lines in
+      let all = totals-by-quarters q (lines .totals) in
       let long = last-line-length (r .totals) (omega (arith, lines .few)) (omega (arith, lines .most)) in
       let days : Put (lineAfterLine dayPageLine (q .holidays) (rowsOf q)) (q .output) 0 (r .at) middle = lines .lines in
       let pass : pageCheck q ≡ Pass = then-pass _ p ∙ asked in

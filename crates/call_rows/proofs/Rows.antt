@@ -17,6 +17,7 @@ use Rattle.calendar_period.specs.Period.{daysOf}
 use Rattle.calendar_laws.specs.Dates.{DatesCounted}
 use Rattle.calendar_laws.proofs.Dates.{dates-counted}
 use Rattle.calendar_laws.proofs.Periods.{period-days}
+use Rattle.carry.specs.declared.Totals.{Totals}
 use Rattle.carry.specs.Carry.{figures, lastCarry}
 use Rattle.carry.specs.Energy.{Quarter, powers}
 use Rattle.carry.proofs.Carry.{carry-append, carry-small}
@@ -39,6 +40,12 @@ module _ (q : Request) (output : List ℕ) where
   refusal : (r : Refusal) → requestCheck q ≡ Refused r → expansion (lent q output) ≡ Expansion.Refused r
   unfolding expansion expandCheck _then_
   refusal r h = ap (λ v. answered (v then roomQuestion (length (series (lent q output))) (length output)) (totals (lent q output))) h
+
+-- totals by the request's quarter hours are those of its series
+pub totals-by-quarters : (q : Request) {t : Totals} →
+    t ≡ record { count = length (quarters q); total = sum (figures (q .yearly) (powers (quarters q)) (q .carry)); carry = lastCarry (q .yearly) (powers (quarters q)) (q .carry) } → t ≡ totals q
+unfolding series
+totals-by-quarters q h = rw (series-length q) h
 
 -- the quarter hours of a period of one day
 module _ (b : Basis) where

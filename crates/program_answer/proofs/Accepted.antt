@@ -10,10 +10,11 @@ use Rattle.calendar_period.specs.declared.CalendarDay.{CalendarDay}
 use Rattle.calendar_period.specs.Inside.{calendarDay}
 use Rattle.file_group.specs.Group.{tableOf}
 use Rattle.day_powers.specs.DayQuarters.{basis}
-use Rattle.call_request.specs.Request.{Request, daysIn, basisOf, series, requestCheck}
-use Rattle.call_request.proofs.Request.{sound, series-length}
+use Rattle.call_request.specs.Request.{Request, daysIn, requestCheck}
+use Rattle.call_request.proofs.Request.{sound}
 use Rattle.call_expand.specs.Expanding.{totals}
 use Rattle.call_rows.specs.Rows.{rowsOf}
+use Rattle.call_rows.proofs.Rows.{totals-by-quarters}
 use Rattle.text.specs.Inside.{Put}
 use Rattle.text.proofs.Puts.{put-put}
 use Rattle.text_program_lines.specs.Lines.{dayLine, lastLine}
@@ -26,11 +27,6 @@ use Rattle.program_answer.specs.Accepted.{acceptedLines, pageLength}
 
 -- an accepted request
 module _ (q : Request) (passed : requestCheck q ≡ Pass) where
-  sums : {before after : List ℕ} {r : Lines} →
-      Listed Program (basisOf q) (q .yearly) (q .carry) (daysIn q) (dateOf (q .first)) before r after → r .totals ≡ totals q
-  unfolding series
-  sums l = rw (series-length q) (l .totals)
-
   pub accepted : {values before middle after : List ℕ} {day : CalendarDay} {days s : ℕ} {r : Lines} → values ≡ tableOf (q .file) (q .group) →
       day ≡ calendarDay (dateOf (q .first)) → days ≡ daysIn q →
       Listed Program (basis values (q .group) (q .holidays)) (q .yearly) (q .carry) days (day .date) before r middle →
@@ -39,4 +35,4 @@ module _ (q : Request) (passed : requestCheck q ≡ Pass) where
       let lines = rw (v, e, f) at l in
       let days : Put (lineAfterLine dayLine (q .holidays) (rowsOf q)) before 0 (r .at) middle = lines .lines in
       let few = sound q passed .period .short in
-      (put-put days (rw (f, sums lines) at last) (omega (arith, last-line-short (daysIn q) (totals q))))
+      (put-put days (rw (f, totals-by-quarters q (lines .totals)) at last) (omega (arith, last-line-short (daysIn q) (totals q))))

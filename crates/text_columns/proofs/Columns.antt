@@ -11,9 +11,6 @@ use Rattle.text_columns.specs.Columns.{blanks, rightAligned, leftAligned
 pub length-right : (width n : ℕ) → 1 ≤ width → n < 10 ^ width → length (rightAligned width n) ≡ width
 unfolding rightAligned
 length-right width n some fits =
-    omega (
-      arith,
-      length-append (blanks (width - length (decimal n))) (decimal n),
-      length-replicate (width - length (decimal n)) space,
-      decimal-short n width fits some,
-    )
+    let spaces = length-replicate (width - length (decimal n)) space in
+    let short = decimal-short n width fits some in
+    simp length-append (omega arith)

@@ -1,6 +1,6 @@
 -- `text_columns::put_right_aligned` meets its contract: spaces in front of the number's digits. Assumes nothing.
 use mathlib.Core.Path.{_≡_}
-use mathlib.Core.List.{List}
+use mathlib.Core.List.{List, _++_}
 use Prim.Native.Nat.{ℕ, _+_, _-_, _^_, _≤_, _<_}
 use native.Mathlib.Omega.{arith}
 use lib.ListN.{length, length-replicate}
@@ -19,10 +19,12 @@ aligned : (n width : ℕ) {places at r s : ℕ} {before middle after : List ℕ}
     at + width ≤ length before → Put (blanks (width - places)) before at r middle → Put (lastDigits places n) middle r s after →
     Put (rightAligned width n) before at s after
 unfolding rightAligned
-aligned n width e some fits room first second =
+aligned n width {at = at} {s = s} {before} {after = after} e some fits room first second =
     let short = decimal-short n width fits some in
     let many = length-replicate (width - length (decimal n)) space in
-    put-put (rw e at first) (rw (decimal-all n) (rw e at second)) (omega arith)
+    let text : Put (blanks (width - length (decimal n)) ++ decimal n) before at s after =
+    put-put (rw e at first) (rw (decimal-all n) (rw e at second)) (omega arith) in
+    text
 
 digit-count-requires : tie.Need-digit-count-requires
 digit-count-requires c κs = search needs
