@@ -4,7 +4,7 @@
  * cc -I include main.c target/staticlib/libexports.a
  *
  * Every call takes any bytes, values and numbers, in any amount, ends, and either does its work (number 0) or is refused by the
- * first question of document 01 that is answered "no" (14 to 18 are document 02's): `number` is then that question's number, `place`
+ * first question of document 01 that is answered "no" (14 to 19 are document 02's): `number` is then that question's number, `place`
  * the place it names (0 where it names none), every other field is 0, and lent memory keeps its content. slp_locate alone gives no
  * number: it answers the part of length 0, and slp_check, which asks the same questions, gives number and place. Of its pointers a
  * call asks what is said below the table; no call can find that out by itself.
@@ -34,6 +34,7 @@
  *       18  the first date of a reading period is not real, outside the         index of the first such period
  *           span, not later than the one before or, of the first period, not
  *           the span's own
+ *       19  the day page is too short                                           bytes needed
  *
  * All memory is the caller's: it is lent for the length of the call, nothing is allocated, kept or freed. A pointer points
  * at `.._length` entries (entries, not bytes) and is not NULL, also where the length is 0. What a call writes to overlaps
@@ -64,6 +65,12 @@ extern "C" {
 
 /* Enough bytes of page for what slp_respond writes for every input. */
 #define SLP_PAGE_LENGTH 65536
+
+/* The length in bytes of slp_page's page of `days` days: a line of 38 bytes for each, and the last one. */
+#define SLP_DAY_PAGE_LENGTH(days) (38 * ((size_t)(days) + 1))
+
+/* Enough bytes for the day page of every period: 1,461 days. */
+#define SLP_LONGEST_DAY_PAGE 55556
 
 /* Enough entries for the holidays of every year. */
 #define SLP_MOST_HOLIDAYS 17
@@ -113,7 +120,7 @@ struct slp_day_report {
 struct slp_expansion_report {
     uint32_t number;
     size_t place;
-    size_t count;   /* figures written */
+    size_t count;   /* its figures */
     uint64_t total; /* their sum in Wh */
     uint32_t carry; /* left over, in 1/40,000 Wh, at most 39,999: the carry of the next period's call */
 };
@@ -189,8 +196,8 @@ struct slp_response_report slp_respond(const uint8_t *input, size_t input_length
  * Germany keeps (New Year, Good Friday, Easter Sunday and Monday, 1 May, Ascension Day, Whit Sunday and Monday, 3 October, 25
  * and 26 December), and the regional days whose bits are set in `choice`: SLP_EPIPHANY (bit 0), SLP_CORPUS_CHRISTI (1),
  * SLP_ASSUMPTION (2), SLP_REFORMATION (3), SLP_ALL_SAINTS (4), SLP_REPENTANCE (5), joined by |; 0 for none. The dates rise, and
- * one that is met twice (1 May 2008, Ascension Day too) is listed once, so slp_day, slp_expand and slp_deliveries take the
- * list. 24 and 31 December are no public holidays and not in it, so that they count as Saturday where they are no Sundays;
+ * one that is met twice (1 May 2008, Ascension Day too) is listed once, so every call that is lent holidays takes the list. 24
+ * and 31 December are no public holidays and not in it, so that they count as Saturday where they are no Sundays;
  * where an agreement makes one of them a full holiday, insert it where the dates still rise (lend an entry more for it).
  * Questions 14, 15 and 16 (place: the entries needed; SLP_MOST_HOLIDAYS is always enough).
  */
@@ -211,6 +218,19 @@ struct slp_check_report slp_deliveries(const uint8_t *file, size_t file_length, 
                                        const uint32_t *starts, size_t starts_length, const uint32_t *metered,
                                        size_t metered_length, const uint32_t *holidays, size_t holidays_length,
                                        uint32_t yearly, int64_t *out, size_t out_length);
+
+/*
+ * Fills `page` from its start with a line for each day from `first` to `last` and a last line with their sums, and keeps the bytes
+ * beyond. A line has 38 bytes: the date as yyyy-mm-dd (10), season letter (W winter, S summer, T transition) with day digit (1
+ * weekday, 2 Saturday, 3 Sunday) (2), how many quarter hours the day has (6) and their energy in Wh (16), both right-aligned with
+ * spaces before them, one space between two fields, and LF. The last line has "total" and two hyphens in place of date and day
+ * type. There is no NUL behind it. What is given and answered is as in slp_expand; no figure is written, and the carry is handed on
+ * in the answer alone. Questions 1 to 11 and 19 (place: the bytes needed, SLP_DAY_PAGE_LENGTH of the period's days;
+ * SLP_LONGEST_DAY_PAGE is always enough).
+ */
+struct slp_expansion_report slp_page(const uint8_t *file, size_t file_length, uint8_t group, uint32_t first, uint32_t last,
+                                     const uint32_t *holidays, size_t holidays_length, uint32_t yearly, uint32_t carry,
+                                     uint8_t *page, size_t page_length);
 
 #ifdef __cplusplus
 }

@@ -84,6 +84,8 @@ struct Case {
     metered: Vec<u32>,
     /// How many entries are lent for the differences.
     lent_differences: usize,
+    /// The length of the page lent for the days.
+    lent_page: usize,
 }
 
 fn draw_groups(random: &mut Random) -> Vec<Group> {
@@ -253,6 +255,7 @@ impl Case {
             lent_list: random.one_of(&[0, 9, 10, 11, 14, 16, 17, 17, 17, 20]),
             lent_differences: (starts.len() + random.one_of(&[1, 1, 4, 0])).saturating_sub(1),
             metered: draw_metered(random, starts.len()),
+            lent_page: 0,
             starts,
             file,
             groups,
@@ -260,6 +263,7 @@ impl Case {
         };
         case.lent = [case.needed(), GROUP_VALUES, file_length(case.groups.len())]
             .map(|needed| (needed + random.one_of(&[1, 1, 4, 0])).saturating_sub(1));
+        case.lent_page = case.needed_page() + random.one_of(&[1, 1, 40, 0]) - 1;
         case
     }
 
@@ -299,8 +303,19 @@ impl Case {
         }
     }
 
-    /// All ways on the six calls: the proved answers.
-    fn run(&self) -> Result<[Answer; 6], String> {
+    /// How many bytes the day page asks for.
+    fn needed_page(&self) -> usize {
+        match slp::page(&self.request(), &mut []) {
+            Err(Refusal {
+                kind: RefusalKind::ShortPage,
+                place,
+            }) => place,
+            _ => 100,
+        }
+    }
+
+    /// All ways on the seven calls: the proved answers.
+    fn run(&self) -> Result<[Answer; 7], String> {
         let [out, table, buffer] = self.lent;
         let lent = || Work::new(out, table, buffer, 0);
         let request = self.request();
@@ -330,6 +345,12 @@ impl Case {
                 work.answered = Some((calls.deliveries)(&given, &mut work.differences));
             },
         )?;
+        let printed = same(
+            || Work::new(0, 0, self.lent_page, 0),
+            |calls, work| {
+                work.expanded = Some((calls.page)(&request, &mut work.buffer));
+            },
+        )?;
         let answers = [
             expanded.expanded.map(|answer| answer.map(|_| ())),
             checked.answered,
@@ -337,6 +358,7 @@ impl Case {
             written.answered,
             listed.listed.map(|answer| answer.map(|_| ())),
             settled.answered,
+            printed.expanded.map(|answer| answer.map(|_| ())),
         ];
         Ok(answers.map(|answer| answer.expect("every call was made")))
     }

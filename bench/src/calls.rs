@@ -1,7 +1,7 @@
 //! The calls that are compared, for each implementation, and what they are lent and answer.
 use slp::{Deliveries, Expansion, Group, Refusal, RefusalKind, RegionalDay, Request, MOST_PERIODS};
 
-use crate::{deliveries, fast, holidays, kept};
+use crate::{deliveries, fast, holidays, kept, page};
 
 pub type Answer = Result<(), Refusal>;
 
@@ -16,6 +16,7 @@ pub struct Calls {
     pub expand: fn(&Request, &mut [u32]) -> Result<Expansion, Refusal>,
     pub holidays: fn(u32, &[RegionalDay], &mut [u32]) -> Listed,
     pub deliveries: fn(&Deliveries, &mut [i64]) -> Answer,
+    pub page: fn(&Request, &mut [u8]) -> Result<Expansion, Refusal>,
 }
 
 pub static PROVED: Calls = Calls {
@@ -26,6 +27,7 @@ pub static PROVED: Calls = Calls {
     expand: slp::expand,
     holidays: slp::holidays,
     deliveries: slp::deliveries,
+    page: slp::page,
 };
 
 /// The reference: the plain safe Rust that an engineer would write from document 01, carry step by carry step. It takes codes;
@@ -38,21 +40,26 @@ pub static PLAIN: Calls = Calls {
         let codes: Vec<u8> = groups.iter().map(|group| group.code()).collect();
         reference::write(&codes, values, buffer).map_err(refusal)
     },
-    expand: |request, out| {
-        let made = reference::expand(&reference_request(request), out).map_err(refusal)?;
-        Ok(Expansion {
-            count: made.count,
-            total: made.total,
-            carry: made.carry,
-        })
-    },
+    expand: |request, out| expansion(reference::expand(&reference_request(request), out)),
     holidays: |year, regional, list| {
         reference::holidays(year, RegionalDay::choice(regional), list).map_err(refusal)
     },
     deliveries: |given, out| {
         reference::deliveries(&reference_deliveries(given), out).map_err(refusal)
     },
+    page: |request, page| expansion(reference::page(&reference_request(request), page)),
 };
+
+fn expansion(
+    answer: Result<reference::Expansion, reference::Refusal>,
+) -> Result<Expansion, Refusal> {
+    let made = answer.map_err(refusal)?;
+    Ok(Expansion {
+        count: made.count,
+        total: made.total,
+        carry: made.carry,
+    })
+}
 
 fn refusal(no: reference::Refusal) -> Refusal {
     Refusal {
@@ -94,6 +101,7 @@ pub static FAST: Calls = Calls {
     expand: fast::expand,
     holidays: holidays::holidays,
     deliveries: deliveries::deliveries,
+    page: page::page,
 };
 
 /// Expanding with tables kept for the whole call; the other calls are those of `FAST`.
@@ -105,6 +113,7 @@ pub static KEPT: Calls = Calls {
     expand: kept::expand,
     holidays: holidays::holidays,
     deliveries: deliveries::deliveries,
+    page: page::page,
 };
 
 pub static ALL: [&Calls; 4] = [&PROVED, &PLAIN, &FAST, &KEPT];
@@ -140,7 +149,7 @@ impl Work {
         Work::new(
             slp::LONGEST_SERIES,
             slp::GROUP_VALUES,
-            slp::file_length(11),
+            slp::file_length(11).max(slp::LONGEST_DAY_PAGE),
             MOST_PERIODS,
         )
     }

@@ -69,8 +69,9 @@ pub fn values_of(first: Day, last: Day) -> usize {
     96 * days + 4 * changes(304) - 4 * changes(90)
 }
 
-/// What the series needs of a day: which of the group's tables, the day of the year, and how many values.
+/// What the series needs of a day: which of the group's tables, the day of the year, and how many values; and its date, yyyymmdd.
 pub struct Laid {
+    pub date: u32,
     pub table: usize,
     pub t: u32,
     pub values: usize,
@@ -128,7 +129,8 @@ impl Iterator for Days<'_> {
     fn next(&mut self) -> Option<Laid> {
         self.left = self.left.checked_sub(1)?;
         let place = &YEAR[self.place];
-        let listed = self.holidays.first() == Some(&(10_000 * self.year + place.date));
+        let date = 10_000 * self.year + place.date;
+        let listed = self.holidays.first() == Some(&date);
         if listed {
             self.holidays = &self.holidays[1..];
         }
@@ -139,6 +141,7 @@ impl Iterator for Days<'_> {
             weekday => usize::from(weekday == 5),
         };
         let laid = Laid {
+            date,
             table: 3 * place.season + day_type,
             t: self.t,
             values: if self.weekday == 6 { place.sunday } else { 96 },

@@ -3,8 +3,9 @@
 use reference::calendar::day_of;
 use slp::{Deliveries, Group, Refusal, RefusalKind, MOST_PERIODS};
 
+use crate::day_sums;
 use crate::days::{Days, Laid};
-use crate::fast::{self, refuse, Opened, Scale, Table};
+use crate::fast::{self, refuse, Opened};
 
 /// Questions 17 and 18: the day number at which each period begins, and behind them that at which the last one ends.
 fn check_periods(given: &Deliveries, opened: &Opened) -> Result<[u32; MOST_PERIODS + 1], Refusal> {
@@ -29,34 +30,6 @@ fn check_periods(given: &Deliveries, opened: &Opened) -> Result<[u32; MOST_PERIO
     Ok(numbers)
 }
 
-/// A day's 96 values or powers.
-type Powers = [u16; 96];
-
-/// What the powers of a day with so many values add up to: March leaves out positions 8 to 11, October repeats them. A power is at most
-/// 25,194, so that two fit 16 bits.
-fn sum(powers: &Powers, count: usize) -> u64 {
-    let (morning, evening) = powers.split_at(48);
-    let pairs = morning.iter().zip(evening).map(|(a, b)| a + b);
-    let day: u32 = pairs.map(u32::from).sum();
-    let hour = || powers[8..12].iter().copied().map(u32::from).sum::<u32>();
-    u64::from(match count {
-        92 => day - hour(),
-        100 => day + hour(),
-        _ => day,
-    })
-}
-
-/// The values of the nine day tables.
-fn values_of(tables: &[Table]) -> [Powers; 9] {
-    let mut days = [[0; 96]; 9];
-    for (values, table) in days.iter_mut().zip(tables) {
-        for (value, bytes) in values.iter_mut().zip(table.as_chunks::<2>().0) {
-            *value = u16::from_be_bytes(*bytes);
-        }
-    }
-    days
-}
-
 pub fn deliveries(given: &Deliveries, out: &mut [i64]) -> Result<(), Refusal> {
     let opened = fast::open(given.file, given.group, given.first, given.last)?;
     let numbers = check_periods(given, &opened)?;
@@ -66,24 +39,15 @@ pub fn deliveries(given: &Deliveries, out: &mut [i64]) -> Result<(), Refusal> {
         return refuse(RefusalKind::ShortOutput, count);
     };
     let days = Days::new(opened.first, opened.last, given.holidays);
-    let values = values_of(opened.tables);
+    let values = day_sums::values_of(opened.tables);
     let settle = Settle {
         out,
         given,
         numbers,
     };
     match given.group {
-        Group::H0 => settle.by(days, |day| {
-            let (scale, mut powers) = (Scale::on(day.t), [0; 96]);
-            for (power, &value) in powers.iter_mut().zip(&values[day.table]) {
-                *power = scale.power(value);
-            }
-            sum(&powers, day.values)
-        }),
-        _ => {
-            let sums = [92, 96, 100].map(|count| values.map(|values| sum(&values, count)));
-            settle.by(days, |day| sums[(day.values - 92) / 4][day.table]);
-        }
+        Group::H0 => settle.by(days, day_sums::of_households(&values)),
+        _ => settle.by(days, day_sums::of_others(&values)),
     }
     Ok(())
 }

@@ -157,6 +157,15 @@ pub fn open(file: &[u8], group: Group, first: u32, last: u32) -> Result<Opened<'
     })
 }
 
+/// Questions 9 to 11.
+pub fn check_rest(request: &Request) -> Result<(), Refusal> {
+    check_basis(request.holidays, request.yearly)?;
+    if request.carry > 39_999 {
+        return refuse(RefusalKind::BadCarry, 0);
+    }
+    Ok(())
+}
+
 /// Questions 9 and 10.
 pub fn check_basis(holidays: &[u32], yearly: u32) -> Result<(), Refusal> {
     check_list(holidays)?;
@@ -194,10 +203,7 @@ pub fn accept<'a, 'b>(
         first,
         last,
     } = open(request.file, request.group, request.first, request.last)?;
-    check_basis(request.holidays, request.yearly)?;
-    if request.carry > 39_999 {
-        return refuse(RefusalKind::BadCarry, 0);
-    }
+    check_rest(request)?;
     let needed = values_of(first, last);
     let Some(figures) = out.get_mut(..needed) else {
         return refuse(RefusalKind::ShortOutput, needed);

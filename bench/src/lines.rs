@@ -18,6 +18,12 @@ fn expand(calls: &Calls, inputs: &Inputs, work: &mut Work, group: Group, first: 
     work.expanded = Some((calls.expand)(&request, &mut work.out));
 }
 
+/// The day page of 2000.
+fn print(calls: &Calls, inputs: &Inputs, work: &mut Work, group: Group) {
+    let request = inputs.request(group, 20000101, 20001231);
+    work.expanded = Some((calls.page)(&request, &mut work.buffer));
+}
+
 /// The holidays of every year with all regional days, one behind the other.
 fn list_years(calls: &Calls, work: &mut Work) {
     for (year, list) in (1996..=2099).zip(work.out.chunks_exact_mut(MOST_HOLIDAYS)) {
@@ -25,7 +31,7 @@ fn list_years(calls: &Calls, work: &mut Work) {
     }
 }
 
-pub static LINES: [Line; 12] = [
+pub static LINES: [Line; 14] = [
     Line {
         name: "h0-year",
         title: "expand H0, 366 days",
@@ -115,6 +121,18 @@ pub static LINES: [Line; 12] = [
             let given = inputs.deliveries(Group::H0);
             work.answered = Some((calls.deliveries)(&given, &mut work.differences));
         },
+    },
+    Line {
+        name: "h0-page",
+        title: "page H0, 366 days",
+        units: 35_136,
+        run: |calls, inputs, work| print(calls, inputs, work, Group::H0),
+    },
+    Line {
+        name: "g0-page",
+        title: "page G0, 366 days",
+        units: 35_136,
+        run: |calls, inputs, work| print(calls, inputs, work, Group::G0),
     },
 ];
 

@@ -2,6 +2,7 @@
 //! and what was measured.
 mod agree;
 mod calls;
+mod day_sums;
 mod days;
 mod deliveries;
 mod fast;
@@ -9,6 +10,7 @@ mod holidays;
 mod inputs;
 mod kept;
 mod lines;
+mod page;
 mod program;
 mod random;
 mod table;
@@ -26,7 +28,7 @@ use lines::Line;
 const USAGE: &str = "usage: bench                        compare all ways, then measure
        bench count WAY LINE TIMES   make the calls of a line and nothing else, for callgrind
 WAY is proved, plain, fast or kept; LINE is h0-year, g0-year, h0-longest, g0-longest, h0-day, h0-large, h0-exact, check, read, write,
-holidays or deliveries.";
+holidays, deliveries, h0-page or g0-page.";
 
 /// What the command line asks for.
 enum Task {

@@ -45,6 +45,9 @@ pub const LONGEST_SERIES: usize = 1_461 * 100;
 /// Enough bytes of page for what the program prints for every input.
 pub const PAGE_LENGTH: usize = 65_536;
 
+/// Enough bytes for the day page of every period: 1,461 days.
+pub const LONGEST_DAY_PAGE: usize = day_page_length(1_461);
+
 /// Enough entries for the holidays of every year: eleven of all of Germany and six regional ones.
 pub const MOST_HOLIDAYS: usize = 17;
 
@@ -58,6 +61,15 @@ pub const MOST_PERIODS: usize = 48;
 /// ```
 pub const fn file_length(count: usize) -> usize {
     6 + (1 + 2 * GROUP_VALUES) * count
+}
+
+/// The length in bytes of a day page of `days` days: a line of 38 bytes for each, and the last one.
+///
+/// ```
+/// assert_eq!(slp::day_page_length(2), 114);
+/// ```
+pub const fn day_page_length(days: usize) -> usize {
+    38 * (days + 1)
 }
 
 /// A season of the profiles.
@@ -98,7 +110,7 @@ pub struct Day {
     pub value_count: u32,
 }
 
-/// What expanding is given beside its output.
+/// What expanding is given beside its output, and the day page beside the page.
 #[derive(Debug, Clone, Copy, PartialEq, Eq)]
 pub struct Request<'a> {
     /// A profile file.
@@ -118,7 +130,7 @@ pub struct Request<'a> {
 }
 
 impl<'a> Request<'a> {
-    /// The same with the group's code, as [`report::expand`] takes it.
+    /// The same with the group's code, as [`report::expand`] and [`report::page`] take it.
     pub fn numbers(&self) -> report::Request<'a> {
         report::Request {
             file: self.file,
@@ -173,7 +185,7 @@ impl<'a> Deliveries<'a> {
 /// What a series adds up to.
 #[derive(Debug, Clone, Copy, PartialEq, Eq, Hash)]
 pub struct Expansion {
-    /// How many figures were written.
+    /// How many figures it has.
     pub count: usize,
     /// Their sum in Wh.
     pub total: u64,
@@ -338,13 +350,56 @@ fn day_type(digit: u32) -> DayType {
 /// # Ok::<(), slp::Refusal>(())
 /// ```
 pub fn expand(request: &Request, out: &mut [u32]) -> Result<Expansion, Refusal> {
-    let report = report::expand(&request.numbers(), out);
+    expansion(report::expand(&request.numbers(), out))
+}
+
+fn expansion(report: report::ExpansionReport) -> Result<Expansion, Refusal> {
     verdict(report.number, report.place)?;
     Ok(Expansion {
         count: report.count,
         total: report.total,
         carry: report.carry,
     })
+}
+
+/// Fills a page with a line for each day of a period and a last one with their sums, from its first byte on, and answers what
+/// [`expand`] answers: questions 1 to 11 and 19 (place: the bytes needed, [`day_page_length`]). A page of [`LONGEST_DAY_PAGE`] bytes is
+/// always long enough.
+///
+/// A line has 38 bytes: the date, 10; season letter (W, S, T) and day digit (1 weekday, 2 Saturday, 3 Sunday), 2; how many quarter hours
+/// the day has, 6, and their energy in Wh, 16, both right-aligned with spaces before them; a space between two fields, and a line feed.
+/// The last line has "total" and two hyphens in place of date and day type. The carry is handed on in the answer alone.
+///
+/// Document 01's two days of March 2000:
+///
+/// ```
+/// let mut file = [0; slp::file_length(1)];
+/// slp::write(&[slp::Group::G0], &[1001; slp::GROUP_VALUES], &mut file)?;
+/// let request = slp::Request {
+///     file: &file,
+///     group: slp::Group::G0,
+///     first: 20000325,
+///     last: 20000326,
+///     holidays: &[],
+///     yearly: 1000,
+///     carry: 0,
+/// };
+/// let mut page = [0; slp::day_page_length(2)];
+/// let made = slp::page(&request, &mut page)?;
+/// let lines = "\
+/// 2000-03-25 T2     96             2402
+/// 2000-03-26 T3     92             2302
+/// total      --    188             4704
+/// ";
+/// assert_eq!(page, *lines.as_bytes());
+/// assert_eq!((made.count, made.total, made.carry), (188, 4704, 28000));
+///
+/// let refusal = slp::page(&request, &mut page[..113]).unwrap_err();
+/// assert_eq!(refusal, slp::Refusal { kind: slp::RefusalKind::ShortPage, place: 114 });
+/// # Ok::<(), slp::Refusal>(())
+/// ```
+pub fn page(request: &Request, page: &mut [u8]) -> Result<Expansion, Refusal> {
+    expansion(report::page(&request.numbers(), page))
 }
 
 /// Writes what the program `slp` prints for an input into the first bytes of `page` and answers how many they are: question 12

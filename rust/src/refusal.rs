@@ -49,10 +49,12 @@ pub enum RefusalKind {
     /// The first date of a reading period is not real, outside the span, not later than the one before or, of the first period, not the
     /// span's own. The place is its index.
     BadFirstDate = 18,
+    /// The day page is too short. The place is the number of bytes needed.
+    ShortPage = 19,
 }
 
 impl RefusalKind {
-    /// All kinds, in the order of their numbers, which are 1 to 12 and 14 to 18.
+    /// All kinds, in the order of their numbers, which are 1 to 12 and 14 to 19.
     pub const ALL: &'static [RefusalKind] = &[
         RefusalKind::NoMark,
         RefusalKind::WrongVersion,
@@ -71,6 +73,7 @@ impl RefusalKind {
         RefusalKind::ShortList,
         RefusalKind::WrongReadings,
         RefusalKind::BadFirstDate,
+        RefusalKind::ShortPage,
     ];
 
     /// The question's number.
@@ -114,6 +117,7 @@ impl RefusalKind {
             RefusalKind::BadFirstDate => {
                 "the first date of a reading period is not real, outside the span, not later than the one before or, of the first period, not the span's own"
             }
+            RefusalKind::ShortPage => "the day page is too short",
         }
     }
 }
@@ -145,13 +149,13 @@ mod tests {
     #[test]
     fn the_numbers_leave_out_13_and_each_has_words_of_its_own() {
         let kinds = || RefusalKind::ALL.iter().copied();
-        assert!(kinds().map(RefusalKind::number).eq((1..=12).chain(14..=18)));
+        assert!(kinds().map(RefusalKind::number).eq((1..=12).chain(14..=19)));
         let words: BTreeSet<_> = kinds().map(RefusalKind::meaning).collect();
         assert_eq!(words.len(), RefusalKind::ALL.len());
         for kind in kinds() {
             assert_eq!(RefusalKind::from_number(kind.number()), Some(kind));
         }
-        for number in [0, 13, 19] {
+        for number in [0, 13, 20] {
             assert_eq!(RefusalKind::from_number(number), None);
         }
     }

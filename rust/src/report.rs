@@ -55,7 +55,7 @@ pub struct DayReport {
     pub value_count: u32,
 }
 
-/// The answer of expanding.
+/// The answer of expanding and of the day page.
 #[repr(C)]
 #[derive(Debug, Clone, Copy, PartialEq, Eq)]
 pub struct ExpansionReport {
@@ -63,7 +63,7 @@ pub struct ExpansionReport {
     pub number: u32,
     /// The place that the question names, else 0.
     pub place: usize,
-    /// How many figures were written.
+    /// How many figures the series has.
     pub count: usize,
     /// Their sum in Wh.
     pub total: u64,
@@ -95,7 +95,7 @@ pub struct HolidaysReport {
     pub length: usize,
 }
 
-/// What expanding is given beside its output.
+/// What expanding is given beside its output, and the day page beside the page.
 #[derive(Debug, Clone, Copy, PartialEq, Eq)]
 pub struct Request<'a> {
     /// A profile file.
@@ -191,6 +191,19 @@ extern "C" {
         out: *mut i64,
         out_length: usize,
     ) -> CheckReport;
+    fn slp_page(
+        file: *const u8,
+        file_length: usize,
+        group: u8,
+        first: u32,
+        last: u32,
+        holidays: *const u32,
+        holidays_length: usize,
+        yearly: u32,
+        carry: u32,
+        page: *mut u8,
+        page_length: usize,
+    ) -> ExpansionReport;
 }
 
 // Each pointer and length below is that of one slice, borrowed for the length of the call, as `slp.h` asks; a `&mut` overlaps
@@ -290,6 +303,25 @@ pub fn deliveries(given: &Deliveries, out: &mut [i64]) -> CheckReport {
             given.yearly,
             out.as_mut_ptr(),
             out.len(),
+        )
+    }
+}
+
+/// `slp_page`.
+pub fn page(request: &Request, page: &mut [u8]) -> ExpansionReport {
+    unsafe {
+        slp_page(
+            request.file.as_ptr(),
+            request.file.len(),
+            request.group,
+            request.first,
+            request.last,
+            request.holidays.as_ptr(),
+            request.holidays.len(),
+            request.yearly,
+            request.carry,
+            page.as_mut_ptr(),
+            page.len(),
         )
     }
 }

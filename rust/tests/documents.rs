@@ -282,13 +282,13 @@ fn definitions_stand_where_the_trace_says() {
     expect_none(&faults);
 }
 
-/// Whether a file of definitions declares this name: `abbrev pub NAME :`, `pub record NAME (..)`.
+/// Whether a file of definitions declares this name: `abbrev pub NAME :`, `pub record NAME (..)`, `pub data NAME :`.
 fn defines(declarations: &str, name: &str) -> bool {
     declarations.lines().any(|line| {
         let mut words = line.split_whitespace();
         let declared = words
             .by_ref()
-            .find(|word| !["abbrev", "unfoldable", "pub", "record"].contains(word));
+            .find(|word| !["abbrev", "unfoldable", "pub", "record", "data"].contains(word));
         line.contains("pub ") && declared == Some(name)
     })
 }

@@ -281,6 +281,7 @@ fn the_commands_of_the_readme_run() {
             "sums",
             "deliveries",
             "days",
+            "page",
             "explain",
             "day",
             "holidays",
@@ -362,6 +363,19 @@ fn the_deliveries_of_the_readme_are_those_of_its_readings() {
         .map(|line| format!("{}000", &line[11..]))
         .collect();
     assert_eq!(column(&deliveries, 1)[..12], metered);
+}
+
+/// The page that the README shows is what its command writes.
+#[test]
+fn the_page_of_the_readme_is_that_of_its_command() {
+    let commands = pasted();
+    let command = commands.iter().find(|line| line.contains(" page "));
+    let page = paste(command.expect("a command for a page"));
+    let shown: String = page.lines().map(|line| format!("    {line}\n")).collect();
+    assert!(
+        stored_text("README.md").contains(&format!("\n{shown}\n")),
+        "{shown}"
+    );
 }
 
 // The files.

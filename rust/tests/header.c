@@ -188,6 +188,29 @@ static void over_and_under_deliveries(void)
     expect("periods", tight.place, 3);
 }
 
+static void day_page(void)
+{
+    static const char lines[] = "2000-03-25 T2     96             2402\n"
+                                "2000-03-26 T3     92             2302\n"
+                                "total      --    188             4704\n";
+    static uint8_t page[SLP_LONGEST_DAY_PAGE];
+    expect("length of a page of two days", SLP_DAY_PAGE_LENGTH(2), sizeof lines - 1);
+    expect("bytes that are always enough", SLP_LONGEST_DAY_PAGE, SLP_DAY_PAGE_LENGTH(1461));
+    page[114] = 7;
+    struct slp_expansion_report made =
+        slp_page(file, sizeof file, 1, 20000325, 20000326, no_holidays, 0, 1000, 0, page, sizeof page);
+    expect("page", made.number, 0);
+    expect("place", made.place, 0);
+    expect("count", made.count, 188);
+    expect("total", made.total, 4704);
+    expect("carry", made.carry, 28000);
+    expect("lines of the page", (uint64_t)memcmp(page, lines, sizeof lines - 1), 0);
+    expect("byte beyond the page", page[114], 7);
+    struct slp_expansion_report tight = slp_page(file, sizeof file, 1, 20000325, 20000326, no_holidays, 0, 1000, 0, page, 113);
+    expect("page of 113 bytes", tight.number, 19);
+    expect("bytes needed for the page", tight.place, 114);
+}
+
 int main(void)
 {
     file_calls();
@@ -197,5 +220,6 @@ int main(void)
     regional_days();
     holiday_list();
     over_and_under_deliveries();
+    day_page();
     return faults == 0 ? 0 : 1;
 }

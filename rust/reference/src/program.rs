@@ -1,5 +1,5 @@
 //! The program: its input and its text.
-use crate::calendar::Season;
+use crate::calendar::{Day, Season};
 use crate::series::{accept, Accepted, Request};
 use crate::{ask, Refusal};
 
@@ -51,18 +51,28 @@ fn number(bytes: &[u8]) -> u32 {
     bytes.iter().fold(0, |n, &byte| 256 * n + u32::from(byte))
 }
 
+/// The date as yyyy-mm-dd.
+pub(crate) fn date(day: Day) -> String {
+    format!("{}-{:02}-{:02}", day.year, day.month, day.day)
+}
+
+/// Season letter and day digit.
+pub(crate) fn kind(day: Day, holidays: &[u32]) -> String {
+    let letter = match day.season() {
+        Season::Winter => 'W',
+        Season::Summer => 'S',
+        Season::Transition => 'T',
+    };
+    let digit = day.day_type(holidays) as u32 + 1;
+    format!("{letter}{digit}")
+}
+
 fn lines(accepted: &Accepted, holidays: &[u32]) -> String {
     let (mut text, mut days, mut count, mut total, mut carry) = (String::new(), 0, 0, 0, 0);
     for day in accepted.days() {
         let made = accepted.expand_day(day, carry, &mut [0; 100]);
-        let letter = match day.season() {
-            Season::Winter => 'W',
-            Season::Summer => 'S',
-            Season::Transition => 'T',
-        };
-        let digit = day.day_type(holidays) as u32 + 1;
-        let date = format!("{}-{:02}-{:02}", day.year, day.month, day.day);
-        text += &format!("{date} {letter}{digit} {} {}\n", made.count, made.total);
+        let (date, kind) = (date(day), kind(day, holidays));
+        text += &format!("{date} {kind} {} {}\n", made.count, made.total);
         days += 1;
         count += made.count;
         total += made.total;

@@ -35,7 +35,7 @@ pub struct Request<'a> {
 /// What expanding answers.
 #[derive(Debug, Clone, Copy, PartialEq, Eq)]
 pub struct Expansion {
-    /// How many figures were written.
+    /// How many figures the series has.
     pub count: usize,
     /// Their sum in Wh.
     pub total: u64,

@@ -5,6 +5,7 @@
 use std::fmt::Debug;
 
 use reference::file::{HEAD, PROFILE, VALUES};
+use reference::page::LINE;
 use reference::{DayAnswer, Expansion, Refusal};
 use slp::report::{
     CheckReport, ComparisonReport, DayReport, Deliveries, ExpansionReport, HolidaysReport,
@@ -261,6 +262,29 @@ pub fn expand(request: &Request, out: &mut [u32], what: &str) -> Result<Expansio
     }
     let filled = answer.map_or(0, |made| made.count);
     expect_kept(&before, out, &answer, filled, what);
+    answer
+}
+
+/// The bytes of an accepted request's day page.
+fn page_length(request: &Request) -> usize {
+    let [first, last] = [request.first, request.last].map(|date| {
+        let day = reference::calendar::day_of(date).expect("a date of the span");
+        day.number as usize
+    });
+    LINE * (last - first + 2)
+}
+
+pub fn page(request: &Request, page: &mut [u8], what: &str) -> Result<Expansion, Refusal> {
+    let before = page.to_vec();
+    let answer = reference::page(&reference_request(request), page);
+    let report = lend(&before, page, what, |page| slp::report::page(request, page));
+    assert_eq!(report, expansion_report(&answer), "{what}");
+    if let Some(request) = package_request(request) {
+        let found = lend(&before, page, what, |page| slp::page(&request, page));
+        assert_eq!(found, result(answer.map(package_expansion)), "{what}");
+    }
+    let filled = answer.map_or(0, |_| page_length(request));
+    expect_kept(&before, page, &answer, filled, what);
     answer
 }
 

@@ -168,7 +168,7 @@ fn a_series_of_values_in_another_unit_is_warned_of() {
         let path = &file(&folder, "table.csv", table("G0", &divided(by)));
         let warning = format!("{path}: the values of G0 look like {unit}: see `dusterteal check`");
         let options = ["--profiles", path, "--holidays", "none"];
-        for subcommand in ["series", "sums", "days", "request"] {
+        for subcommand in ["series", "sums", "days", "page", "request"] {
             let line = [&[subcommand, "G0", "2000", "1000"][..], &options].concat();
             assert_eq!(warnings(&line), [warning.as_str()], "{subcommand}");
         }

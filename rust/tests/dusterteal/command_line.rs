@@ -3,11 +3,12 @@ use crate::made::{FILE, TABLE};
 use crate::tool::{says, stopped, written};
 
 /// The subcommands that the first help has, and those for binary files.
-const USUAL: [&str; 9] = [
+const USUAL: [&str; 10] = [
     "series",
     "sums",
     "deliveries",
     "days",
+    "page",
     "explain",
     "day",
     "holidays",
@@ -106,7 +107,7 @@ fn the_version_is_that_of_the_package() {
 }
 
 const SUBCOMMANDS: &str =
-    "they are series, sums, deliveries, days, explain, day, holidays, check, compare, pack, unpack, request";
+    "they are series, sums, deliveries, days, page, explain, day, holidays, check, compare, pack, unpack, request";
 
 #[test]
 fn what_is_no_subcommand_is_named() {
@@ -157,6 +158,11 @@ fn what_is_no_option_is_named_with_those_that_are() {
             "its options are --profiles, --holidays, --since, --carry, --carry-out, --unit, --decimal, --wide, --about, -o",
         ),
         ("days G0 2000 1000 --carry 1", "--carry", "its options are --profiles, --holidays, -o"),
+        (
+            "page G0 2000 1000 --unit kWh",
+            "--unit",
+            "its options are --profiles, --holidays, --since, --carry, --carry-out, -o",
+        ),
         ("day 2000 --wide", "--wide", "its options are --holidays, -o"),
         (
             "holidays 2000 --holidays none",
@@ -183,6 +189,7 @@ fn missing_and_surplus_arguments_are_named() {
         ("series G0 2000", "KWH is missing"),
         ("sums G0 2000 --holidays none", "KWH is missing"),
         ("days G0 2000", "KWH is missing"),
+        ("page G0 2000", "KWH is missing"),
         ("explain G0 2000-01-01", "TIME is missing"),
         ("explain G0 2000-01-01 00:15", "KWH is missing"),
         ("day", "PERIOD is missing"),
@@ -255,7 +262,7 @@ fn options_that_are_given_twice_or_without_a_value_are_named() {
 fn profiles_and_holidays_must_be_named() {
     let profiles = "--profiles is missing: name a profile file or CSV tables";
     let holidays = "--holidays is missing: it takes german, german:NAME,.. with regional days, a file with one date a line, or none";
-    for name in ["series", "sums", "days", "request"] {
+    for name in ["series", "sums", "days", "page", "request"] {
         let line = |options: &str| format!("{name} G0 2000 1000{options}");
         expect_not_understood(&line(""), profiles);
         expect_not_understood(&line(" --holidays none"), profiles);

@@ -364,7 +364,7 @@ fn dates_outside_the_span_are_refused_as_dates() {
     let options = ["--profiles", &source.profiles, "--holidays", "german:all"];
     for (period, what) in OUTSIDE {
         let message = format!("PERIOD {period}: {what}");
-        for subcommand in ["series", "sums", "days", "request"] {
+        for subcommand in ["series", "sums", "days", "page", "request"] {
             let words = [subcommand, "G0", period, "3500"];
             says(&[&words[..], &options].concat(), 1, &message);
         }

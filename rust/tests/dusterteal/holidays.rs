@@ -167,7 +167,7 @@ fn a_year_without_a_listed_date_is_warned_of() {
         ("1999-12-31..2003-01-01", "1999, 2001, 2003"),
     ] {
         let expected = no_date_of(path, years);
-        for subcommand in ["series", "sums", "days", "request"] {
+        for subcommand in ["series", "sums", "days", "page", "request"] {
             let line = arguments(subcommand, period, path);
             assert_eq!(warnings(&line), expected, "{line:?}");
         }
@@ -211,7 +211,7 @@ fn a_list_without_the_days_of_all_of_germany_is_warned_of() {
         ("2026-12-24", ""),
     ] {
         let expected = missing(alone, missed);
-        for subcommand in ["series", "sums", "days", "request"] {
+        for subcommand in ["series", "sums", "days", "page", "request"] {
             let line = arguments(subcommand, period, alone);
             assert_eq!(warnings(&line), expected, "{line:?}");
             assert_eq!(warnings(&arguments(subcommand, period, whole)), [""; 0]);

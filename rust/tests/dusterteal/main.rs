@@ -20,6 +20,7 @@ mod holidays;
 mod joining;
 mod made;
 mod packing;
+mod page;
 #[allow(dead_code)] // likewise
 #[path = "../profile_file/mod.rs"]
 mod profile_file;

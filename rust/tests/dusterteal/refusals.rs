@@ -29,8 +29,8 @@ const SOUND: Asked = Asked {
 };
 
 /// The subcommands that make a series, and those of them that are given a carry.
-const MAKERS: [&str; 5] = ["series", "sums", "explain", "days", "request"];
-const WITH_CARRY: [&str; 3] = ["series", "sums", "explain"];
+const MAKERS: [&str; 6] = ["series", "sums", "explain", "days", "page", "request"];
+const WITH_CARRY: [&str; 4] = ["series", "sums", "explain", "page"];
 
 impl<'a> Asked<'a> {
     fn of(self, subcommand: &'a str) -> Vec<&'a str> {
@@ -57,7 +57,7 @@ impl<'a> Asked<'a> {
 /// What the tests below put wrong is right to begin with.
 #[test]
 fn a_sound_request_is_accepted() {
-    for subcommand in ["series", "sums", "days"] {
+    for subcommand in ["series", "sums", "days", "page"] {
         assert!(!written(&SOUND.of(subcommand)).is_empty(), "{subcommand}");
     }
     assert!(!warned(
@@ -281,7 +281,7 @@ fn dates_that_are_not_real_are_named() {
     ] {
         let message = &format!("PERIOD {period}: {why} (question 7, place {place})");
         let asked = Asked { period, ..SOUND };
-        asked.expect_refused(&["series", "sums", "days", "request"], message);
+        asked.expect_refused(&["series", "sums", "days", "page", "request"], message);
         says(&["day", period], 1, message);
     }
 }
@@ -297,7 +297,7 @@ fn a_date_of_one_figure_that_is_not_real_is_named() {
 
 #[test]
 fn a_reversed_period_and_one_that_is_too_long_are_told_apart() {
-    let makers = ["series", "sums", "days", "request"];
+    let makers = ["series", "sums", "days", "page", "request"];
     let period = "2000-03-26..2000-03-25";
     let message = "PERIOD 2000-03-26..2000-03-25: 2000-03-26 to 2000-03-25 ends before it begins (question 8, place 0)";
     Asked { period, ..SOUND }.expect_refused(&makers, message);
@@ -434,7 +434,7 @@ fn the_first_question_that_is_answered_no_counts() {
             yearly: from(10, "1000000001", "1000"),
             carry: from(11, "40000", "0"),
         };
-        for subcommand in ["series", "sums"] {
+        for subcommand in ["series", "sums", "page"] {
             let outcome = run(&asked.of(subcommand));
             let told = format!(" (question {first}, place ");
             expect_stopped(&outcome, 1, &[&told]);

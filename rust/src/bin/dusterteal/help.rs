@@ -12,6 +12,7 @@ pub const OVERVIEW: &str = "dusterteal: quarter-hour series from the VDEW load p
   sums        counts and energy of its days, months, quarters or years as CSV
   deliveries  metered minus balanced energy of a customer's reading periods as CSV
   days        a line for each day, as the program slp prints it
+  page        a page to be printed, with a line of fixed width for each day
   explain     how one figure comes about
   day         the calendar of a period: t, weekday, season, day type and why
   holidays    the German holidays of a period, with the regional days of your choice, as a list
@@ -80,8 +81,10 @@ const BEGINNING: &str = "  --since DATE          begin the run on DATE and write
 const FILES: &str = "  -o FILE               write FILE and not standard output; - is standard output (and standard input where a file is read)
 ";
 
-const KEPT: &str = "  --carry-out FILE      write the last carry to FILE
-  --about FILE          write how the series was made: arguments, version, the SHA-256 of tool and files, count, total, carry
+const LAST_CARRY: &str = "  --carry-out FILE      write the last carry to FILE
+";
+
+const ACCOUNT: &str = "  --about FILE          write how the series was made: arguments, version, the SHA-256 of tool and files, count, total, carry
 ";
 
 const ENERGY_UNIT: &str = "  --unit Wh|kWh         what energy is written in; Wh without it
@@ -97,6 +100,7 @@ pub fn of(name: &str) -> Option<String> {
         "sums" => Some(sums()),
         "deliveries" => Some(deliveries()),
         "days" => Some(days()),
+        "page" => Some(page()),
         "explain" => Some(explain()),
         "day" => Some(day()),
         "holidays" => Some(holidays()),
@@ -132,7 +136,7 @@ fn series() -> String {
     run(
         "series GROUP PERIOD KWH",
         does,
-        &[BEGINNING, unit, DECIMALS, wide, KEPT, FILES],
+        &[BEGINNING, unit, DECIMALS, wide, LAST_CARRY, ACCOUNT, FILES],
     )
 }
 
@@ -145,7 +149,15 @@ fn sums() -> String {
     run(
         "sums GROUP PERIOD KWH",
         does,
-        &[by, BEGINNING, ENERGY_UNIT, DECIMALS, KEPT, FILES],
+        &[
+            by,
+            BEGINNING,
+            ENERGY_UNIT,
+            DECIMALS,
+            LAST_CARRY,
+            ACCOUNT,
+            FILES,
+        ],
     )
 }
 
@@ -173,6 +185,17 @@ fn days() -> String {
 carry, as the program slp prints it: the run begins on the period's first day with carry 0. W is winter, S summer, T transition;
 1 weekday, 2 Saturday, 3 Sunday.";
     run("days GROUP PERIOD KWH", does, &[FILES])
+}
+
+fn page() -> String {
+    let does = "Writes a page to be printed, with a line of 38 bytes for each day: date, season and day type, quarter hours and Wh, these two
+right-aligned in 6 and 16 places. The last line has total, two hyphens and the sums. W is winter, S summer, T transition; 1 weekday,
+2 Saturday, 3 Sunday. The carry is not on the page.";
+    run(
+        "page GROUP PERIOD KWH",
+        does,
+        &[BEGINNING, LAST_CARRY, FILES],
+    )
 }
 
 fn explain() -> String {

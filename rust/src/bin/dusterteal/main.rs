@@ -20,6 +20,7 @@ mod holiday_list;
 mod holidays;
 mod names;
 mod pack;
+mod page;
 mod plausibility;
 mod profiles;
 mod quarter_hours;
@@ -44,11 +45,12 @@ use files::Made;
 type Maker = fn(&[OsString]) -> Result<Made, Failure>;
 
 /// The subcommands.
-const SUBCOMMANDS: [(&str, Maker); 12] = [
+const SUBCOMMANDS: [(&str, Maker); 13] = [
     ("series", series::make),
     ("sums", sums::make),
     ("deliveries", deliveries::make),
     ("days", days::make),
+    ("page", page::make),
     ("explain", explain::make),
     ("day", day::make),
     ("holidays", holiday_list::make),
@@ -145,6 +147,7 @@ mod tests {
             &sums::GRAMMAR,
             &deliveries::GRAMMAR,
             &days::GRAMMAR,
+            &page::GRAMMAR,
             &explain::GRAMMAR,
             &day::GRAMMAR,
             &holiday_list::GRAMMAR,

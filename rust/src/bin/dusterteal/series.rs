@@ -1,7 +1,7 @@
 //! `series`: the figures of a period as CSV.
 use std::ffi::OsString;
 
-use slp::Day;
+use slp::{Day, Expansion};
 
 use crate::about;
 use crate::amounts::{Format, Unit, DECIMAL, UNIT};
@@ -61,10 +61,7 @@ pub fn deliver(
     text: Vec<u8>,
 ) -> Result<Made, Failure> {
     let main = Output::text(arguments.target(), text);
-    let mut outputs = Vec::new();
-    if let Some(path) = arguments.value("--carry-out") {
-        outputs.push(Output::text(path, format!("{}\n", series.made.carry)));
-    }
+    let mut outputs: Vec<Output> = carry_out(arguments, series.made).into_iter().collect();
     if let Some(path) = arguments.value("--about") {
         let text = about::text(arguments, run, series, &main)?;
         outputs.push(Output::text(path, text));
@@ -74,6 +71,12 @@ pub fn deliver(
         outputs,
         read: run.read(),
     })
+}
+
+/// The last carry, where `--carry-out` asks for it.
+pub fn carry_out(arguments: &Arguments, made: Expansion) -> Option<Output> {
+    let path = arguments.value("--carry-out")?;
+    Some(Output::text(path, format!("{}\n", made.carry)))
 }
 
 /// The days of a run's period, each with its figures.
