@@ -225,8 +225,8 @@ struct slp_check_report slp_deliveries(const uint8_t *file, size_t file_length, 
  * weekday, 2 Saturday, 3 Sunday) (2), how many quarter hours the day has (6) and their energy in Wh (16), both right-aligned with
  * spaces before them, one space between two fields, and LF. The last line has "total" and two hyphens in place of date and day
  * type. There is no NUL behind it. What is given and answered is as in slp_expand; no figure is written, and the carry is handed on
- * in the answer alone. Questions 1 to 11 and 19 (place: the bytes needed, SLP_DAY_PAGE_LENGTH of the period's days;
- * SLP_LONGEST_DAY_PAGE is always enough).
+ * in the answer alone. Questions 1 to 11 and 19 (place: the bytes needed, SLP_DAY_PAGE_LENGTH of the period's days, so that a call
+ * with a length of 0 says how many bytes an accepted one fills; SLP_LONGEST_DAY_PAGE is always enough).
  */
 struct slp_expansion_report slp_page(const uint8_t *file, size_t file_length, uint8_t group, uint32_t first, uint32_t last,
                                      const uint32_t *holidays, size_t holidays_length, uint32_t yearly, uint32_t carry,

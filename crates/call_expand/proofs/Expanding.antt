@@ -16,7 +16,7 @@ use Rattle.call_request.specs.Request.{Request, quarters, series, requestCheck}
 use Rattle.call_request.proofs.Request.{Sound, sound}
 use Rattle.call_expansion.specs.declared.Expansion.{Expansion}
 use Rattle.call_expansion.specs.Answered.{answered, reported}
-use Rattle.call_expand.specs.Expanding.{expandCheck, totals, expansion, outputAfter, lent, Expands}
+use Rattle.call_expand.specs.Expanding.{expandCheck, totals, expansion, outputAfter, lent, IsExpanded, Expands}
 
 module _ (q : Request) where
   refused : {r : Refusal} → expandCheck q ≡ Refused r → Expands q (Expansion.Refused r) (q .output)
@@ -50,8 +50,8 @@ unfolding expandCheck
 request-sound q h = sound q (then-first (requestCheck q) _ h)
 
 -- what is answered where the questions before 12 pass and the output lent is long enough
-pub expanded-in : (q : Request) (output : List ℕ) → requestCheck q ≡ Pass → length (series q) ≤ length output → expansion (lent q output) ≡ Expansion.Expanded (totals q)
+pub expanded-in : (q : Request) → requestCheck q ≡ Pass → IsExpanded q
 unfolding expansion expandCheck series
-expanded-in q output p room =
+expanded-in q p output room =
     let pass : expandCheck (lent q output) ≡ Pass = then-pass _ p ∙ room-enough _ _ room in
     ap (λ (v : Verdict). answered v (totals q)) pass

@@ -2,7 +2,7 @@
 -- lent output, accepted and refused.
 use mathlib.Core.Path.{_≡_}
 use mathlib.Core.List.{List}
-use Prim.Native.Nat.{ℕ}
+use Prim.Native.Nat.{ℕ, _≤_}
 use lib.ListN.{length}
 use Rattle.lists.specs.Lists.{sum}
 use Rattle.refusal.specs.declared.Verdict.{Verdict}
@@ -12,6 +12,7 @@ use Rattle.carry.specs.Carry.{lastCarry}
 use Rattle.carry.specs.Energy.{powers}
 use Rattle.call_request.specs.Request.{Request, request, quarters, series, requestCheck}
 use Rattle.call_expansion.specs.declared.Expansion.{Expansion}
+use Rattle.call_expansion.specs.declared.Expansion.the-variants.{Expanded}
 use Rattle.call_expansion.specs.declared.ExpansionReport.{ExpansionReport}
 use Rattle.call_expansion.specs.Answered.{answered, reported}
 
@@ -38,6 +39,10 @@ outputAfter q = lentAfter (expandCheck q) (series q) (q .output)
 -- the same request, lent another output
 abbrev pub lent : Request → List ℕ → Request
 lent q output = request (q .file) (q .group) (q .first) (q .last) (q .holidays) (q .yearly) (q .carry) output
+
+-- expanding, lent an output that is long enough, accepts a request and answers its totals
+abbrev pub IsExpanded : Request → Type 0
+IsExpanded q = (output : List ℕ) → length (series q) ≤ length output → expansion (lent q output) ≡ Expanded (totals q)
 
 -- the contract of expanding: what it answered, also in document 01's numbers, and its output afterwards
 pub record Expands (q : Request) (answer : Expansion) (after : List ℕ) : Type 0 where

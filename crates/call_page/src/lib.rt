@@ -9,14 +9,11 @@ ghost use mathlib.Core.Path.{_≡_};
 ghost use Rattle.call_request.specs.Request.{request};
 ghost use Rattle.call_page.specs.Page.{pageQuestion, Prints};
 
-// The length of a line.
-const LINE_LENGTH: usize = 38;
-
 // Question 19, of a page with `room` bytes for the lines of some days and the last one.
 fn page_question(days: u32, room: usize) -> Verdict
     ensures { λ r. ⌜ r ≡ pageQuestion days room ⌝ }
 {
-    let needed = LINE_LENGTH * (days as usize + 1);
+    let needed = text_page_lines::LINE_LENGTH * (days as usize + 1);
     if room < needed {
         return Verdict::Refused(Refusal::ShortPage(needed));
     }

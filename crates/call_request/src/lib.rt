@@ -1,4 +1,4 @@
-// What expanding and the program are given (document 01): a request, and its questions 9 to 12.
+// What expanding, the day page and the program are given (document 01): a request, and its questions 9 to 12.
 use calendar_period::CalendarDay;
 use refusal::Refusal;
 use refusal::Verdict;

@@ -81,7 +81,7 @@ module _ (b : Basis) where
         rw (all, map-append (λ (x : Quarter). x .power) first day, carry-append yearly (powers first) (powers day) carry)
 
 -- day k of an accepted request
-module _ (q : Request) (k : ℕ) (output : List ℕ) (passed : requestCheck q ≡ Pass) (inside : k < daysIn q) where
+module _ (q : Request) (k : ℕ) (passed : requestCheck q ≡ Pass) (inside : k < daysIn q) where
   real : isDate (dateOfDay q k) ≡ true
   real =
       let p = sound q passed .period in
@@ -93,11 +93,11 @@ module _ (q : Request) (k : ℕ) (output : List ℕ) (passed : requestCheck q �
   own-date = dates-counted .0 (dateOfDay q k) real .numbered
 
   -- its quarter hours are the day's
-  own-quarters : quarters (onDay q k output) ≡ dayQuarters (basisOf q) (dateOfDay q k)
+  own-quarters : quarters (onDay q k) ≡ dayQuarters (basisOf q) (dateOfDay q k)
   own-quarters =
       ap (λ (e : Date). quartersOfDays (dayQuarters (basisOf q)) (daysOf e e) e) own-date ∙ first-to-last (basisOf q) (dateOfDay q k)
 
-  day-row : take 1 (drop k (rowsOf q)) ≡ rowOf (dateOfDay q k) (totals (onDay q k output) .count) (totals (onDay q k output) .total) ∷ []
+  day-row : take 1 (drop k (rowsOf q)) ≡ rowOf (dateOfDay q k) (totals (onDay q k) .count) (totals (onDay q k) .total) ∷ []
   unfolding series
   day-row =
       let later = daysIn q - k - 1 in
@@ -106,7 +106,7 @@ module _ (q : Request) (k : ℕ) (output : List ℕ) (passed : requestCheck q �
       ∙ row-at (basisOf q) (q .yearly) k (dateOf (q .first)) (q .carry) later
       ∙ ap (λ (run : List Quarter). rowOf (dateOfDay q k) (length (figures (q .yearly) (powers run) (carryAfterDays q k))) (sum (figures (q .yearly) (powers run) (carryAfterDays q k))) ∷ []) (sym own-quarters)
 
-  day-sound : Sound (onDay q k output)
+  day-sound : Sound (onDay q k)
   unfolding daysOf
   day-sound =
       let s = sound q passed in
@@ -119,13 +119,13 @@ module _ (q : Request) (k : ℕ) (output : List ℕ) (passed : requestCheck q �
         carry = carry-small (q .yearly) (q .carry) (powers (quartersOfDays (dayQuarters (basisOf q)) k (dateOf (q .first)))) (s .carry);
       }
 
-  day-carry : totals (onDay q k output) .carry ≡ carryAfterDays q (k + 1)
+  day-carry : totals (onDay q k) .carry ≡ carryAfterDays q (k + 1)
   day-carry =
       ap (λ (run : List Quarter). lastCarry (q .yearly) (powers run) (carryAfterDays q k)) own-quarters
       ∙ next-carry (basisOf q) (q .yearly) k (dateOf (q .first)) (q .carry)
 
-  day-as-expanded : DayAsExpanded q k output
-  day-as-expanded = record { row = day-row; answer = λ room. expanded-in (onDay q k output) output (passes (onDay q k output) day-sound) room; carry = day-carry }
+  day-as-expanded : DayAsExpanded q k
+  day-as-expanded = record { row = day-row; answer = expanded-in (onDay q k) (passes (onDay q k) day-sound); carry = day-carry }
 
 module _ (q : Request) where
   one-day : daysIn q ≡ 1 → rowsOf q ≡ rowOf (dateOf (q .first)) (totals q .count) (totals q .total) ∷ []

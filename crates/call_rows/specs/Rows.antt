@@ -1,7 +1,7 @@
 -- Document 01, "Then it expands day by day", and document 02, (e): the rows of a request, whose figures are what expanding answers.
 use mathlib.Core.Path.{_≡_}
 use mathlib.Core.List.{List, [], _∷_, map}
-use Prim.Native.Nat.{ℕ, _+_, _≤_, _<_}
+use Prim.Native.Nat.{ℕ, _+_, _<_}
 use lib.ListN.{length, take, drop}
 use Rattle.lists.specs.Lists.{sum}
 use Rattle.refusal.specs.declared.Refusal.{Refusal}
@@ -12,10 +12,9 @@ use Rattle.carry.specs.Carry.{lastCarry}
 use Rattle.carry.specs.Energy.{powers}
 use Rattle.day_powers.specs.DayQuarters.{dayQuarters}
 use Rattle.series.specs.Series.{quartersOfDays}
-use Rattle.call_request.specs.Request.{Request, request, daysIn, basisOf, series, requestCheck}
+use Rattle.call_request.specs.Request.{Request, request, daysIn, basisOf, requestCheck}
 use Rattle.call_expansion.specs.declared.Expansion.{Expansion}
-use Rattle.call_expansion.specs.declared.Expansion.the-variants.{Expanded}
-use Rattle.call_expand.specs.Expanding.{totals, expansion, lent}
+use Rattle.call_expand.specs.Expanding.{totals, expansion, lent, IsExpanded}
 use Rattle.series_rows.specs.Rows.{Row, rowOf, rows}
 
 -- "Each day of an expanding call": a request's rows
@@ -30,16 +29,16 @@ dateOfDay q k = daysLater k (dateOf (q .first))
 abbrev pub carryAfterDays : Request → ℕ → ℕ
 carryAfterDays q k = lastCarry (q .yearly) (powers (quartersOfDays (dayQuarters (basisOf q)) k (dateOf (q .first)))) (q .carry)
 
--- the request for day k alone, with the carry that the days before it leave and an output of its own
-abbrev pub onDay : Request → ℕ → List ℕ → Request
-onDay q k output =
-    request (q .file) (q .group) (numberOf (dateOfDay q k)) (numberOf (dateOfDay q k)) (q .holidays) (q .yearly) (carryAfterDays q k) output
+-- the request for day k alone, with the carry that the days before it leave
+abbrev pub onDay : Request → ℕ → Request
+onDay q k =
+    request (q .file) (q .group) (numberOf (dateOfDay q k)) (numberOf (dateOfDay q k)) (q .holidays) (q .yearly) (carryAfterDays q k) []
 
--- those of a day's row are what a call for that day answers, with any output that is long enough, and its carry is the next day's
-pub record DayAsExpanded (q : Request) (k : ℕ) (output : List ℕ) : Type 0 where
-  pub row : take 1 (drop k (rowsOf q)) ≡ rowOf (dateOfDay q k) (totals (onDay q k output) .count) (totals (onDay q k output) .total) ∷ []
-  pub answer : length (series (onDay q k output)) ≤ length output → expansion (onDay q k output) ≡ Expanded (totals (onDay q k output))
-  pub carry : totals (onDay q k output) .carry ≡ carryAfterDays q (k + 1)
+-- the figures of a day's row are what a call for that day answers, and its carry is the next day's
+pub record DayAsExpanded (q : Request) (k : ℕ) : Type 0 where
+  pub row : take 1 (drop k (rowsOf q)) ≡ rowOf (dateOfDay q k) (totals (onDay q k) .count) (totals (onDay q k) .total) ∷ []
+  pub answer : IsExpanded (onDay q k)
+  pub carry : totals (onDay q k) .carry ≡ carryAfterDays q (k + 1)
 
 -- the theorem: the figures of a request's rows are what expanding answers. Proved in proofs/Rows.antt.
 pub record AsExpanded (q : Request) : Type 0 where
@@ -47,12 +46,12 @@ pub record AsExpanded (q : Request) : Type 0 where
   pub days : length (rowsOf q) ≡ daysIn q
   pub counts : sum (map (λ row. row .count) (rowsOf q)) ≡ totals q .count
   pub wattHours : sum (map (λ row. row .wattHours) (rowsOf q)) ≡ totals q .total
-  -- the totals are what one call for the whole period answers, with any output that is long enough
-  pub whole : (output : List ℕ) → requestCheck q ≡ Pass → length (series q) ≤ length output → expansion (lent q output) ≡ Expanded (totals q)
+  -- the totals are what one call for the whole period answers
+  pub whole : requestCheck q ≡ Pass → IsExpanded q
   -- a period of one day has the row of its totals, whatever its questions say
   pub oneDay : daysIn q ≡ 1 → rowsOf q ≡ rowOf (dateOf (q .first)) (totals q .count) (totals q .total) ∷ []
   -- each day's row is what a call for that day answers
-  pub day : (k : ℕ) (output : List ℕ) → requestCheck q ≡ Pass → k < daysIn q → DayAsExpanded q k output
+  pub day : (k : ℕ) → requestCheck q ≡ Pass → k < daysIn q → DayAsExpanded q k
   -- a refusal is the one that such a call answers
   pub refused : (output : List ℕ) (r : Refusal) → requestCheck q ≡ Refused r → expansion (lent q output) ≡ Expansion.Refused r
 

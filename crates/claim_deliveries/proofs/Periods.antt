@@ -18,14 +18,14 @@ use Rattle.series.specs.Series.{quartersOfDays}
 use Rattle.series_laws.proofs.Adjoining.{two-periods}
 use Rattle.call_request.specs.Request.{Request, basisOf, quarters, series}
 use Rattle.call_request.proofs.Request.{Sound, passes}
-use Rattle.call_expand.specs.Expanding.{totals}
+use Rattle.call_expand.specs.Expanding.{totals, IsExpanded}
 use Rattle.call_expand.proofs.Expanding.{expanded-in}
 use Rattle.call_deliveries.specs.Deliveries.{ofPeriod, carriedThrough}
-use Rattle.claim_deliveries.specs.Settled.{IsExpanded, Adjacent, HandedOn, joinedSeries}
+use Rattle.claim_deliveries.specs.Settled.{Adjacent, HandedOn, joinedSeries}
 
 -- a request whose questions pass is expanded
 pub expanded : (r : Request) → Sound r → IsExpanded r
-expanded r s out = expanded-in r out (passes r s)
+expanded r s = expanded-in r (passes r s)
 
 module _ (q : Request) (whole : Sound q) where
   -- the requests for the periods of some first dates

@@ -13,13 +13,8 @@ use Rattle.calendar_dates.specs.declared.Date.{Date}
 use Rattle.calendar_dates.specs.Dates.{dateOf, nextDay}
 use Rattle.calendar_reading_periods.specs.ReadingPeriods.{readingsQuestion, firstDatesQuestion}
 use Rattle.call_request.specs.Request.{Request, series, requestCheck}
-use Rattle.call_expansion.specs.declared.Expansion.the-variants.{Expanded}
-use Rattle.call_expand.specs.Expanding.{totals, expansion, lent}
+use Rattle.call_expand.specs.Expanding.{totals, IsExpanded}
 use Rattle.call_deliveries.specs.Deliveries.{Deliveries, wholeSpan, balancedPeriods, difference, differences, deliveriesCheck, Delivers, Reports}
-
--- expanding, lent an output that is long enough, accepts a request and answers its totals
-abbrev pub IsExpanded : Request → Type 0
-IsExpanded r = (out : List ℕ) → length (series r) ≤ length out → expansion (lent r out) ≡ Expanded (totals r)
 
 -- "adjacent": the first period begins on `begin`, each later one on the day after the one before ended, and the last one ends on `last`
 unfoldable pub Adjacent : Date → ℕ → List Request → Type 0

@@ -1,3 +1,4 @@
-pub mod Reading
+pub mod ReadBack
 pub mod Lines
 pub mod PagesRead
+pub mod WorkedPage

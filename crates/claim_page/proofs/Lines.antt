@@ -4,8 +4,8 @@ use mathlib.Core.Path.{_≡_, refl, sym, _∙_, ap}
 use mathlib.Core.List.{List, [], _∷_, _++_, append-assoc, map}
 use Prim.Native.Nat.{ℕ, zero, suc, _+_, _*_, _^_, _≤_, _<_}
 use native.Mathlib.Omega.{arith}
-use lib.ListN.{length, take, drop, length-append}
-use lib.Seq.{take-at, drop-at, drop-append-add}
+use lib.ListN.{length, take, drop, getD, length-append}
+use lib.Seq.{take-at, drop-at, drop-append-add, getD-drop}
 use Rattle.lists.specs.Lists.{sum, Each}
 use Rattle.lists.proofs.Members.{each-take, each-drop}
 use Rattle.calendar_days.specs.Days.{dayKind}
@@ -16,13 +16,20 @@ use Rattle.text_columns.proofs.Columns.{length-right}
 use Rattle.text_page_lines.specs.PageLines.{pageLine, dayPageLine}
 use Rattle.text_page_lines.proofs.PageLines.{day-line-length}
 use Rattle.text_listing.specs.Listing.{lineAfterLine}
-use Rattle.claim_page.specs.Reading.{number, lineOn, firstOn, dayTypeOn, countOn, wattHoursOn}
-use Rattle.claim_page.proofs.Reading.{read-right}
+use Rattle.claim_page.specs.ReadBack.{number, lineOn, Parted, firstOn, dayTypeOn, countOn, wattHoursOn}
+use Rattle.claim_page.proofs.ReadBack.{read-right}
 
 -- a field between what stands in front of it and behind it
 part : (front field rest : List ℕ) (a b : ℕ) {whole : List ℕ} → whole ≡ front ++ (field ++ rest) → length front ≡ a → length field ≡ b →
     take b (drop a whole) ≡ field
 part front field rest a b e f l = rw e (ap (take b) (drop-at front (field ++ rest) a f) ∙ take-at field rest b l)
+
+-- a byte behind what stands in front of it
+byte : (front rest : List ℕ) (x a : ℕ) {whole : List ℕ} → whole ≡ front ++ (x ∷ rest) → length front ≡ a → getD whole a 0 ≡ x
+byte front rest x a {whole} e f =
+    let here : a + 0 ≡ a = omega arith in
+    ap (λ (n : ℕ). getD whole n 0) (sym here) ∙ sym (getD-drop a whole 0 0)
+    ∙ ap (λ (bytes : List ℕ). getD (drop a bytes) 0 0) e ∙ ap (λ (bytes : List ℕ). getD bytes 0 0) (drop-at front (x ∷ rest) a f)
 
 -- the fields of a line
 module _ (w : ℕ) (first dayType : List ℕ) (count wattHours : ℕ) (ten : length first ≡ 10) (wide : length dayType ≡ w)
@@ -59,12 +66,39 @@ module _ (w : ℕ) (first dayType : List ℕ) (count wattHours : ℕ) (ten : len
       part (first ++ (space ∷ (dayType ++ (space ∷ (counted ++ (space ∷ [])))))) energy (lineFeed ∷ []) (19 + w) 16 {whole = line}
       (simp append-assoc) (simp length-append (omega arith)) (length-right 16 wattHours (omega arith) small)
 
+  -- and the bytes between and behind them
+  first-space : getD line 10 0 ≡ 32
+  unfolding pageLine
+  first-space = byte first (dayType ++ (space ∷ (counted ++ (space ∷ (energy ++ (lineFeed ∷ [])))))) space 10 {whole = line} refl ten
+
+  second-space : getD line (11 + w) 0 ≡ 32
+  unfolding pageLine
+  second-space =
+      byte (first ++ (space ∷ dayType)) (counted ++ (space ∷ (energy ++ (lineFeed ∷ [])))) space (11 + w) {whole = line}
+      (simp append-assoc) (simp length-append (omega arith))
+
+  third-space : getD line (18 + w) 0 ≡ 32
+  unfolding pageLine
+  third-space =
+      let long = length-right 6 count (omega arith) few in
+      byte (first ++ (space ∷ (dayType ++ (space ∷ counted)))) (energy ++ (lineFeed ∷ [])) space (18 + w) {whole = line}
+      (simp append-assoc) (simp length-append (omega arith))
+
+  feed : getD line (35 + w) 0 ≡ 10
+  unfolding pageLine
+  feed =
+      let long = length-right 6 count (omega arith) few in
+      let wide′ = length-right 16 wattHours (omega arith) small in
+      byte (first ++ (space ∷ (dayType ++ (space ∷ (counted ++ (space ∷ energy)))))) [] lineFeed (35 + w) {whole = line}
+      (simp append-assoc) (simp length-append (omega arith))
+
 -- what is read on a line
 pub record LineRead (w : ℕ) (page : List ℕ) (i : ℕ) (first dayType : List ℕ) (count wattHours : ℕ) : Type 0 where
   pub first-is : firstOn w page i ≡ first
   pub type-is : dayTypeOn w page i ≡ dayType
   pub count-is : countOn w page i ≡ number count
   pub energy-is : wattHoursOn w page i ≡ number wattHours
+  pub parted-is : Parted w page i
 
 pub line-read : (w : ℕ) (page : List ℕ) (i : ℕ) (first dayType : List ℕ) (count wattHours : ℕ) → lineOn w page i ≡ pageLine first dayType count wattHours →
     length first ≡ 10 → length dayType ≡ w → count < 10 ^ 6 → wattHours < 10 ^ 16 → LineRead w page i first dayType count wattHours
@@ -74,6 +108,12 @@ line-read w page i first dayType count wattHours e ten wide few small =
       type-is = rw e (day-type-field w first dayType count wattHours ten wide few small);
       count-is = rw (e, count-field w first dayType count wattHours ten wide few small) (read-right 6 count (omega arith));
       energy-is = rw (e, watt-hours-field w first dayType count wattHours ten wide few small) (read-right 16 wattHours (omega arith));
+      parted-is = record {
+        first = rw e (first-space w first dayType count wattHours ten wide few small);
+        second = rw e (second-space w first dayType count wattHours ten wide few small);
+        third = rw e (third-space w first dayType count wattHours ten wide few small);
+        last = rw e (feed w first dayType count wattHours ten wide few small);
+      };
     }
 
 -- rows whose figures fit their fields

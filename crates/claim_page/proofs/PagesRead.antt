@@ -1,11 +1,12 @@
 -- What is read on the page after an accepted call: its lines lie one after the other (proofs/Lines.antt), what is written in a field is
--- read there (proofs/Reading.antt), and a request's rows add up to its totals. Assumes nothing.
+-- read there (proofs/ReadBack.antt), and a request's rows add up to its totals. Assumes nothing.
 use mathlib.Core.Path.{_≡_, refl, sym, _∙_, ap}
 use mathlib.Core.Bool.{true}
+use mathlib.Core.Logic.{⊎-elim}
 use mathlib.Core.List.{List, [], _∷_, _++_, append-assoc, map}
-use Prim.Native.Nat.{ℕ, suc, _+_, _*_, _^_, _≤_, _<_}
+use Prim.Native.Nat.{ℕ, suc, _+_, _-_, _*_, _^_, _≤_, _<_}
 use native.Mathlib.Omega.{arith}
-use native.Mathlib.Nat.{add-zero, zero-add}
+use native.Mathlib.Nat.{add-zero, zero-add, eq-zero-or-pos}
 use lib.ListN.{length, take, drop, replicate, length-append}
 use borrow.Author.Tests.{eq-eqb}
 use Rattle.lists.specs.Lists.{sum, Each, eachFrom}
@@ -37,10 +38,10 @@ use Rattle.text_columns.specs.Columns.{leftAligned}
 use Rattle.text_page_lines.specs.PageLines.{dayPageLine, lastPageLine}
 use Rattle.text_page_lines.proofs.PageLines.{last-line-length}
 use Rattle.call_page.specs.Page.{pageText, bytesNeeded, pageQuestion, pageCheck, pageAnswer, pageAfter, Prints, Reports}
-use Rattle.call_page.proofs.Page.{page-enough}
-use Rattle.claim_page.specs.Reading.{Read, number, lineOn, dayTypeOn, dateOn, countOn, wattHoursOn, plus, added}
+use Rattle.call_page.proofs.Page.{page-enough, page-short}
+use Rattle.claim_page.specs.ReadBack.{Read, number, none, readDate, lineOn, Parted, dayTypeOn, dateOn, countOn, wattHoursOn, plus, added}
 use Rattle.claim_page.specs.PagesRead.{DayRead, PageRead, WidthsEnough, AskedAsExpanding, PagesRead}
-use Rattle.claim_page.proofs.Reading.{read-date}
+use Rattle.claim_page.proofs.ReadBack.{read-date}
 use Rattle.claim_page.proofs.Lines.{LineRead, line-read, Narrow, narrow-at, all-narrow, lines, lines-length, line-at, last-at}
 
 -- what is read on lines from `at` on, where each says its row's number, adds up to the rows'
@@ -107,14 +108,14 @@ module _ (q : Request) (passed : requestCheck q ≡ Pass) where
     day-read : (k : ℕ) → k < daysIn q → DayRead q page k
     unfolding series
     day-read k inside =
-        let day = as-expanded .day k [] passed inside in
-        let r = row-read k (rowOf (dateOfDay q k) (totals (onDay q k []) .count) (totals (onDay q k []) .total)) (day .row) in
+        let day = as-expanded .day k passed inside in
+        let r = row-read k (rowOf (dateOfDay q k) (totals (onDay q k) .count) (totals (onDay q k) .total)) (day .row) in
         record {
           date = rw (r .first-is) (read-date (dateOfDay q k) (real k inside));
           dayType = r .type-is;
           count = r .count-is;
           wattHours = r .energy-is;
-          asExpanded = λ output. as-expanded .day k output passed inside .answer;
+          asExpanded = day .answer;
         }
 
     -- and on the last line
@@ -124,6 +125,19 @@ module _ (q : Request) (passed : requestCheck q ≡ Pass) where
         line-read 2 page (daysIn q) (leftAligned 10 totalWord) (replicate 2 hyphen) (totals q .count) (totals q .total)
         (rw placed (last-at (q .holidays) (rowsOf q) (lastPageLine (totals q)) beyond (daysIn q) narrow (as-expanded .days) last-length))
         refl refl (omega (arith, few)) (omega (arith, most))
+
+    -- which has no date
+    no-date : dateOn 2 page (daysIn q) ≡ none
+    unfolding readDate
+    no-date = rw (last-read .first-is)
+
+    -- each line is a row's, or the last one
+    line-parted : (i : ℕ) → i ≤ daysIn q → Parted 2 page i
+    line-parted i h =
+        ⊎-elim
+        (λ (e : daysIn q - i ≡ 0). let last : i ≡ daysIn q = omega arith in rw last (last-read .parted-is))
+        (λ (some : 0 < daysIn q - i). row-read i _ (as-expanded .day i passed (omega arith) .row) .parted-is)
+        (eq-zero-or-pos (daysIn q - i))
 
     counts-add-up : countOn 2 page (daysIn q) ≡ added (eachFrom (countOn 2 page) 1 (daysIn q) 0)
     counts-add-up =
@@ -142,12 +156,14 @@ module _ (q : Request) (passed : requestCheck q ≡ Pass) where
     page-read e left =
         record {
           answer = e;
-          asExpanded = λ output. as-expanded .whole output passed;
-          long = page-length;
-          left = left;
+          asExpanded = as-expanded .whole passed;
+          bytes = page-length;
+          leaves = left;
+          parted = line-parted;
           day = day-read;
           totalWord = last-read .first-is;
           hyphens = last-read .type-is;
+          noDate = no-date;
           count = rw e (last-read .count-is);
           wattHours = rw e (last-read .energy-is);
           countsAddUp = counts-add-up;
@@ -162,7 +178,7 @@ module _ (q : Request) (passed : requestCheck q ≡ Pass) where
         wattHours = each-of (rowsOf q) narrow (λ row fits. decimal-short (row .wattHours) _ (omega (arith, fits .1)) (omega arith));
         count = decimal-short (totals q .count) _ (omega (arith, few)) (omega arith);
         total = decimal-short (totals q .total) _ (omega (arith, most)) (omega arith);
-        bytes = omega arith;
+        longest = omega arith;
       }
 
 -- an accepted call is one whose questions all passed
@@ -184,6 +200,7 @@ asked-as-expanding q =
     record {
       refused = λ output r e. ap (λ (v : Verdict). answered v (totals q)) (refused-first _ e) ∙ sym (rows-as-expanded q .refused output r e);
       accepted = λ p room. then-pass _ p ∙ page-enough (daysIn q) (length (q .output)) room;
+      short = λ p room. ap (λ (v : Verdict). reported (answered v (totals q))) (then-pass _ p ∙ page-short (daysIn q) (length (q .output)) room);
     }
 
 pub pages-read : PagesRead

@@ -1,2 +1,3 @@
-pub mod Reading
+pub mod ReadBack
 pub mod PagesRead
+pub mod WorkedPage

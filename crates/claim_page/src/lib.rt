@@ -1,1 +1,2 @@
-// Theorems about every accepted call for a day page (document 02, (e)): what is read back from the page. There is no code.
+// Theorems about the day page (document 02, (e)): what is read back from the page of every accepted call, that the widths are enough,
+// which questions are asked, and lines worked out. There is no code.

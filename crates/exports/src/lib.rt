@@ -22,7 +22,7 @@ ghost use Rattle.call_request.specs.Request.{request};
 ghost use Rattle.call_expand.specs.Expanding.{Reports};
 ghost use Rattle.call_deliveries.specs.Deliveries.{deliveries, Reports as DeliveriesReports};
 ghost use Rattle.call_page.specs.Page.{Reports as PageReports};
-ghost use Rattle.program_response.specs.Responding.{responseTo, pageAfter, reported as reportedResponse};
+ghost use Rattle.program_response.specs.Responding.{responseTo, pageAfter as responseAfter, reported as reportedResponse};
 
 // Questions 1 to 6.
 #[no_mangle]
@@ -163,7 +163,7 @@ pub extern "C" fn slp_page(
 #[no_mangle]
 pub extern "C" fn slp_respond(input: &[u8], page: &mut [u8]) -> ResponseReport
     ensures { λ r. ⌜ r ≡ reportedResponse (responseTo (now (input .entry)) (now (page .entry))) ⌝ }
-    ensures { λ r. ⌜ now (page .exit) ≡ pageAfter (now (input .entry)) (now (page .entry)) ⌝ }
+    ensures { λ r. ⌜ now (page .exit) ≡ responseAfter (now (input .entry)) (now (page .entry)) ⌝ }
 {
     program_response::report(program_response::respond(input, page))
 }

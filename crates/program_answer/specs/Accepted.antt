@@ -7,7 +7,7 @@ use Rattle.call_rows.specs.Rows.{rowsOf}
 use Rattle.text_program_lines.specs.Lines.{dayLine, lastLine}
 use Rattle.text_listing.specs.Listing.{lineAfterLine}
 
--- "Then it expands day by day" from the request's carry, 0 for an input's: a line "for each day", then "the last line"
+-- "Then it expands day by day from carry 0", which is the carry of an input's request: a line "for each day", then "The last line"
 abbrev pub acceptedLines : Request → List ℕ
 acceptedLines q = lineAfterLine dayLine (q .holidays) (rowsOf q) ++ lastLine (daysIn q) (totals q)
 

@@ -10,6 +10,7 @@ pub record Put (text : List ℕ) (before : List ℕ) (at : ℕ) (r : ℕ) (after
   pub page : after ≡ take at before ++ (text ++ drop (at + length text) before)
   pub behind : r ≡ at + length text
 
+-- the last digits of a number, as many as `places` says
 unfoldable pub lastDigits : ℕ → ℕ → List ℕ
 lastDigits zero n = []
 lastDigits (suc places) n = lastDigits places (n / 10) ++ (digit (n % 10) ∷ [])

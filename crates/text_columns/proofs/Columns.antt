@@ -6,11 +6,11 @@ use native.Mathlib.Omega.{arith}
 use lib.ListN.{length, length-append, length-replicate}
 use Rattle.text.specs.Text.{space, decimal}
 use Rattle.text.proofs.Text.{decimal-short}
-use Rattle.text_columns.specs.Columns.{blanks, rightAligned, leftAligned}
+use Rattle.text_columns.specs.Columns.{spaces, rightAligned, leftAligned}
 
 pub length-right : (width n : ℕ) → 1 ≤ width → n < 10 ^ width → length (rightAligned width n) ≡ width
 unfolding rightAligned
 length-right width n some fits =
-    let spaces = length-replicate (width - length (decimal n)) space in
+    let many = length-replicate (width - length (decimal n)) space in
     let short = decimal-short n width fits some in
     simp length-append (omega arith)

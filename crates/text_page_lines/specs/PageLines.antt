@@ -24,7 +24,7 @@ wattHoursWidth = 16
 
 -- a line's length, by the width of its day type: "38 bytes"
 abbrev pub lineLength : ℕ → ℕ
-lineLength dayType = dateWidth + 1 + dayType + 1 + countWidth + 1 + wattHoursWidth + 1
+lineLength width = dateWidth + 1 + width + 1 + countWidth + 1 + wattHoursWidth + 1
 
 -- the order of a line's fields, with the texts of the first two
 unfoldable pub pageLine : List ℕ → List ℕ → ℕ → ℕ → List ℕ

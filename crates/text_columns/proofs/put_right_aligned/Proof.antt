@@ -9,20 +9,20 @@ use Rattle.text.specs.Text.{space, decimal}
 use Rattle.text.specs.Inside.{Put, lastDigits}
 use Rattle.text.proofs.Text.{decimal-short, decimal-all}
 use Rattle.text.proofs.Puts.{put-put}
-use Rattle.text_columns.specs.Columns.{blanks, rightAligned}
+use Rattle.text_columns.specs.Columns.{spaces, rightAligned}
 use Rattle.text_columns.proofs.Columns.{length-right}
 use Rattle.text_columns.proofs.put_right_aligned.Statement.{statement}
 use Rattle.text_columns.proofs.put_right_aligned.Tie as tie
 
 -- spaces, then the digits
 aligned : (n width : ℕ) {places at r s : ℕ} {before middle after : List ℕ} → places ≡ length (decimal n) → 1 ≤ width → n < 10 ^ width →
-    at + width ≤ length before → Put (blanks (width - places)) before at r middle → Put (lastDigits places n) middle r s after →
+    at + width ≤ length before → Put (spaces (width - places)) before at r middle → Put (lastDigits places n) middle r s after →
     Put (rightAligned width n) before at s after
 unfolding rightAligned
 aligned n width {at = at} {s = s} {before} {after = after} e some fits room first second =
     let short = decimal-short n width fits some in
     let many = length-replicate (width - length (decimal n)) space in
-    let text : Put (blanks (width - length (decimal n)) ++ decimal n) before at s after =
+    let text : Put (spaces (width - length (decimal n)) ++ decimal n) before at s after =
     put-put (rw e at first) (rw (decimal-all n) (rw e at second)) (omega arith) in
     text
 
@@ -35,18 +35,18 @@ short c =
     let start = c .before .before in
     omega (arith, c .digit-count .ensures, decimal-short (start .args .n) (start .args .width) (start .pre .1 .0) (start .pre .0))
 
-sub-put-blanks : tie.Need-sub-put-blanks
-sub-put-blanks c = omega (arith, short c)
+sub-put-spaces : tie.Need-sub-put-spaces
+sub-put-spaces c = omega (arith, short c)
 
-put-blanks-requires : tie.Need-put-blanks-requires
-put-blanks-requires c κs = search needs
+put-spaces-requires : tie.Need-put-spaces-requires
+put-spaces-requires c κs = search needs
 
 put-last-digits-requires : tie.Need-put-last-digits-requires
 put-last-digits-requires c κs =
     let blank = c .before .before .before in
     let counted = blank .before .before in
     let many = length-replicate (counted .before .before .args .width - counted .digit-count .result) space in
-    omega (arith, short counted, blank .put-blanks .ensures .behind)
+    omega (arith, short counted, blank .put-spaces .ensures .behind)
 
 same-length : tie.Need-same-length
 same-length c = search needs
@@ -58,9 +58,9 @@ returns c =
     let counted = blank .before .before in
     let start = counted .before .before in
     let p = aligned (start .args .n) (start .args .width) (counted .digit-count .ensures) (start .pre .0) (start .pre .1 .0) (start .pre .1 .1)
-    (blank .put-blanks .ensures) (put .put-last-digits .ensures) in
+    (blank .put-spaces .ensures) (put .put-last-digits .ensures) in
     (p, omega (arith, p .behind, length-right (start .args .width) (start .args .n) (start .pre .0) (start .pre .1 .0)))
 
 pub put-right-aligned-spec : {M : Type 1} → statement M
 put-right-aligned-spec =
-    tie.close (tie.spec digit-count-requires sub-put-blanks put-blanks-requires put-last-digits-requires same-length returns)
+    tie.close (tie.spec digit-count-requires sub-put-spaces put-spaces-requires put-last-digits-requires same-length returns)

@@ -13,8 +13,8 @@ slice-aggregate-put-word c = search needs
 put-word-requires : tie.Need-put-word-requires
 put-word-requires c κs = search needs
 
-put-blanks-requires : tie.Need-put-blanks-requires
-put-blanks-requires c κs = search needs
+put-spaces-requires : tie.Need-put-spaces-requires
+put-spaces-requires c κs = search needs
 
 put-byte-requires : tie.Need-put-byte-requires
 put-byte-requires c κs = search needs
@@ -42,7 +42,7 @@ returns c =
     let start = word .before .before .before .before in
     let long = last-line-length (start .args .t) (start .pre .0) (start .pre .1 .0) in
     behind (word .put-word .ensures)
-    (behind (filled .put-blanks .ensures)
+    (behind (filled .put-spaces .ensures)
     (behind (blank .put-byte .ensures) (behind (hyphens .put-word2 .ensures) (λ _. amounts .put-amounts .ensures .0))))
     (omega arith)
 
@@ -52,7 +52,7 @@ put-last-line-spec =
     (tie.spec
     slice-aggregate-put-word
     put-word-requires
-    put-blanks-requires
+    put-spaces-requires
     put-byte-requires
     slice-aggregate-put-word-2
     put-word-requires-2

@@ -188,9 +188,9 @@ carry, as the program slp prints it: the run begins on the period's first day wi
 }
 
 fn page() -> String {
-    let does = "Writes a page to be printed, with a line of 38 bytes for each day: date, season and day type, quarter hours and Wh, these two
-right-aligned in 6 and 16 places. The last line has total, two hyphens and the sums. W is winter, S summer, T transition; 1 weekday,
-2 Saturday, 3 Sunday. The carry is not on the page.";
+    let does = "Writes a page to be printed, with a line of 38 bytes for each day: date (10), season and day type (2), how many quarter hours
+(6) and their Wh (16), both right-aligned, with a space between two fields. The last line has \"total\", two hyphens and the sums. W is
+winter, S summer, T transition; 1 weekday, 2 Saturday, 3 Sunday. The page has no heading, and the carry is not on it.";
     run(
         "page GROUP PERIOD KWH",
         does,

@@ -1,10 +1,11 @@
 -- Document 02, (e), "as read back from the page itself": a reader of lines, which knows bytes and the widths of the fields alone. `w` is
 -- the width of the day type. Lines are counted from 0.
+use mathlib.Core.Path.{_≡_}
 use mathlib.Core.Bool.{_&&_, cond}
 use mathlib.Core.List.{List, [], _∷_, _++_}
 use Prim.Native.Nat.{ℕ, _+_, _-_, _*_}
-use lib.Dec.{leb, eqb}
-use lib.ListN.{take, drop, getD}
+use lib.Dec.{leb, ltb, eqb}
+use lib.ListN.{length, take, drop, getD}
 
 -- what is read: a number, or none where the bytes are not those of one
 pub data Read : Type 0 where
@@ -16,10 +17,14 @@ unfoldable pub readDigits : ℕ → List ℕ → Read
 readDigits n [] = number n
 readDigits n (byte ∷ bytes) = cond (leb 48 byte && leb byte 57) (readDigits (n * 10 + (byte - 48)) bytes) none
 
+-- a number "with no leading zeros": none where a zero, 48, stands in front of others
+unfoldable pub readNumber : List ℕ → Read
+readNumber bytes = cond (eqb (getD bytes 0 0) 48 && ltb 1 (length bytes)) none (readDigits 0 bytes)
+
 -- a number behind any spaces, 32
-unfoldable pub readRight : List ℕ → Read
-readRight [] = none
-readRight (byte ∷ bytes) = cond (eqb byte 32) (readRight bytes) (readDigits 0 (byte ∷ bytes))
+unfoldable pub readRightAligned : List ℕ → Read
+readRightAligned [] = none
+readRightAligned (byte ∷ bytes) = cond (eqb byte 32) (readRightAligned bytes) (readNumber (byte ∷ bytes))
 
 -- a date yyyy-mm-dd, by its number yyyymmdd: the digits around the hyphens, 45
 unfoldable pub readDate : List ℕ → Read
@@ -31,6 +36,13 @@ readDate field =
 -- a line's bytes: 10 of the date, w of the day type, 6 of the count, 16 of the Wh, three spaces and LF
 unfoldable pub lineOn : ℕ → List ℕ → ℕ → List ℕ
 lineOn w page i = take (36 + w) (drop ((36 + w) * i) page)
+
+-- the bytes between and behind its fields: three spaces, and LF, 10
+pub record Parted (w : ℕ) (page : List ℕ) (i : ℕ) : Type 0 where
+  pub first : getD (lineOn w page i) 10 0 ≡ 32
+  pub second : getD (lineOn w page i) (11 + w) 0 ≡ 32
+  pub third : getD (lineOn w page i) (18 + w) 0 ≡ 32
+  pub last : getD (lineOn w page i) (35 + w) 0 ≡ 10
 
 -- its first field, and its day type
 abbrev pub firstOn : ℕ → List ℕ → ℕ → List ℕ
@@ -44,10 +56,10 @@ abbrev pub dateOn : ℕ → List ℕ → ℕ → Read
 dateOn w page i = readDate (firstOn w page i)
 
 abbrev pub countOn : ℕ → List ℕ → ℕ → Read
-countOn w page i = readRight (take 6 (drop (12 + w) (lineOn w page i)))
+countOn w page i = readRightAligned (take 6 (drop (12 + w) (lineOn w page i)))
 
 abbrev pub wattHoursOn : ℕ → List ℕ → ℕ → Read
-wattHoursOn w page i = readRight (take 16 (drop (19 + w) (lineOn w page i)))
+wattHoursOn w page i = readRightAligned (take 16 (drop (19 + w) (lineOn w page i)))
 
 -- the sum of what was read, where all of it are numbers
 abbrev pub plus : Read → Read → Read

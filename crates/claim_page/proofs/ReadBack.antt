@@ -1,11 +1,13 @@
 -- What is written is read: a number in decimal, right-aligned, and a date. Assumes nothing.
 use mathlib.Core.Path.{_≡_, refl, sym, _∙_, ap}
-use mathlib.Core.Bool.{true}
+use mathlib.Core.Bool.{Bool, true, false, _&&_}
+use mathlib.Core.Logic.{⊎-elim}
 use mathlib.Core.List.{List, [], _∷_, _++_, append-assoc}
 use Prim.Native.Nat.{ℕ, zero, suc, _+_, _-_, _*_, _/_, _%_, _^_, _≤_, _<_}
 use native.Mathlib.Omega.{arith}
-use native.Mathlib.Nat.{pow-succ'}
-use lib.ListN.{length, length-append}
+use native.Mathlib.Nat.{eq-zero-or-pos, pow-succ'}
+use lib.Dec.{ltb, eqb}
+use lib.ListN.{length, getD}
 use borrow.Author.Tests.{le-leb, ne-eqb}
 use Rattle.lists.specs.Lists.{Each}
 use Rattle.lists.proofs.Members.{each-append}
@@ -13,9 +15,9 @@ use Rattle.calendar_dates.specs.declared.Date.{Date}
 use Rattle.calendar_dates.specs.Dates.{isDate, numberOf}
 use Rattle.calendar_dates.proofs.Dates.{parts}
 use Rattle.text.specs.Text.{digit, decimal, twoDigits, dateText}
-use Rattle.text.proofs.Text.{front, digits-last, decimal-some}
-use Rattle.text_columns.specs.Columns.{blanks, rightAligned}
-use Rattle.claim_page.specs.Reading.{Read, number, readDigits, readRight, readDate}
+use Rattle.text.proofs.Text.{front, front-none, digits-last, decimal-some}
+use Rattle.text_columns.specs.Columns.{spaces, rightAligned}
+use Rattle.claim_page.specs.ReadBack.{number, readDigits, readNumber, readRightAligned, readDate}
 
 -- a digit
 read-digit : (n x : ℕ) (bytes : List ℕ) → x < 10 → readDigits n (digit x ∷ bytes) ≡ readDigits (n * 10 + x) bytes
@@ -66,21 +68,56 @@ front-digits (suc k) (suc n) =
 decimal-digits : (n : ℕ) → Digits (decimal n)
 decimal-digits n = rw (digits-last 19 n) (each-append _ (front 19 (n / 10)) (digit (n % 10) ∷ []) (front-digits 19 (n / 10)) (omega arith, tt))
 
-digits-alone : (bytes : List ℕ) → 1 ≤ length bytes → Digits bytes → readRight bytes ≡ readDigits 0 bytes
-unfolding readRight
+digits-alone : (bytes : List ℕ) → 1 ≤ length bytes → Digits bytes → readRightAligned bytes ≡ readNumber bytes
+unfolding readRightAligned
 digits-alone [] some all = absurd (omega arith)
 digits-alone (byte ∷ bytes) some all = rw (ne-eqb byte 32 (λ e. omega (arith, all .0)))
 
-behind-blanks : (n : ℕ) (rest : List ℕ) → readRight (blanks n ++ rest) ≡ readRight rest
-unfolding readRight
-behind-blanks zero rest = refl
-behind-blanks (suc n) rest = behind-blanks n rest
+nothing-in-front : (k n : ℕ) → n ≡ 0 → front k n ≡ []
+nothing-in-front k n e = ap (front k) e ∙ front-none k
 
-pub read-right : (width n : ℕ) → n < 10 ^ 20 → readRight (rightAligned width n) ≡ number n
+-- the first digit of a number is no zero
+front-first : (k n : ℕ) (rest : List ℕ) → 0 < n → n < 10 ^ k → 49 ≤ getD (front k n ++ rest) 0 0
+front-first zero n rest some h = absurd (omega arith)
+front-first (suc k) zero rest some h = absurd (omega arith)
+front-first (suc k) (suc n) rest some h =
+    let last = suc n % 10 in
+    let same : front (suc k) (suc n) ++ rest ≡ front k (suc n / 10) ++ (digit last ∷ rest) =
+    ap (λ (all : List ℕ). all ++ rest) (digits-last k (suc n)) ∙ append-assoc (front k (suc n / 10)) (digit last ∷ []) rest in
+    rw same
+    (⊎-elim
+    (λ (none : suc n / 10 ≡ 0). rw (nothing-in-front k (suc n / 10) none) (omega arith))
+    (λ more. front-first k (suc n / 10) (digit last ∷ rest) more (omega (arith, pow-succ' 10 k)))
+    (eq-zero-or-pos (suc n / 10)))
+
+and-no : (b : Bool) → (b && false) ≡ false
+and-no true = refl
+and-no false = refl
+
+-- so none stands in front of others
+no-leading-zero : (n : ℕ) → n < 10 ^ 20 → (eqb (getD (decimal n) 0 0) 48 && ltb 1 (length (decimal n))) ≡ false
+no-leading-zero n h =
+    rw (digits-last 19 n)
+    (⊎-elim
+    (λ (none : n / 10 ≡ 0). rw (nothing-in-front 19 (n / 10) none) (and-no (eqb (digit (n % 10)) 48)))
+    (λ more. rw (ne-eqb (getD (front 19 (n / 10) ++ (digit (n % 10) ∷ [])) 0 0) 48 (λ e. omega (arith, front-first 19 (n / 10) (digit (n % 10) ∷ []) more (omega arith)))))
+    (eq-zero-or-pos (n / 10)))
+
+number-alone : (n : ℕ) → n < 10 ^ 20 → readNumber (decimal n) ≡ readDigits 0 (decimal n)
+unfolding readNumber
+number-alone n h = rw (no-leading-zero n h)
+
+behind-spaces : (n : ℕ) (rest : List ℕ) → readRightAligned (spaces n ++ rest) ≡ readRightAligned rest
+unfolding readRightAligned
+behind-spaces zero rest = refl
+behind-spaces (suc n) rest = behind-spaces n rest
+
+pub read-right : (width n : ℕ) → n < 10 ^ 20 → readRightAligned (rightAligned width n) ≡ number n
 unfolding rightAligned
 read-right width n h =
-    behind-blanks (width - length (decimal n)) (decimal n)
+    behind-spaces (width - length (decimal n)) (decimal n)
     ∙ digits-alone (decimal n) (decimal-some n) (decimal-digits n)
+    ∙ number-alone n h
     ∙ read-decimal n h
 
 -- a date, by twos of digits

@@ -1,4 +1,4 @@
--- `text_columns::put_blanks` meets its contract. The invariant: what is stored and the spaces left to store come to the whole.
+-- `text_columns::put_spaces` meets its contract. The invariant: what is stored and the spaces left to store come to the whole.
 -- Assumes nothing.
 use mathlib.Core.Path.{_≡_, refl}
 use mathlib.Core.List.{[], _∷_}
@@ -9,28 +9,28 @@ use lib.ListN.{length, length-replicate}
 use Rattle.lists.proofs.Stores.{Storing, nothing-stored, one-stored, all-stored}
 use Rattle.text.specs.Text.{space}
 use Rattle.text.proofs.Puts.{put-sets}
-use Rattle.text_columns.specs.Columns.{blanks}
-use Rattle.text_columns.proofs.put_blanks.Statement.{statement}
-use Rattle.text_columns.proofs.put_blanks.Tie as tie
+use Rattle.text_columns.specs.Columns.{spaces}
+use Rattle.text_columns.proofs.put_spaces.Statement.{statement}
+use Rattle.text_columns.proofs.put_spaces.Tie as tie
 
 -- one of the spaces left, and none
-blanks-next : (n i : ℕ) → i < n → blanks (n - i) ≡ space ∷ blanks (n - (i + 1))
-blanks-next n i h = let e : n - i ≡ suc (n - (i + 1)) = omega arith in rw e
+spaces-next : (n i : ℕ) → i < n → spaces (n - i) ≡ space ∷ spaces (n - (i + 1))
+spaces-next n i h = let e : n - i ≡ suc (n - (i + 1)) = omega arith in rw e
 
-blanks-none : (n : ℕ) → n ≤ 0 → blanks n ≡ []
-blanks-none n h = let e : n ≡ 0 = omega arith in rw e
+spaces-none : (n : ℕ) → n ≤ 0 → spaces n ≡ []
+spaces-none n h = let e : n ≡ 0 = omega arith in rw e
 
-all-blanks : (n : ℕ) → blanks (n - 0) ≡ blanks n
-all-blanks n = let e : n - 0 ≡ n = omega arith in rw e
+all-spaces : (n : ℕ) → spaces (n - 0) ≡ spaces n
+all-spaces n = let e : n - 0 ≡ n = omega arith in rw e
 
 abbrev Inv-loop : tie.InvT-loop
-Inv-loop n page₀ at i₀ page i = (i ≤ n) × Storing page₀ at (blanks n) page (at + i) (blanks (n - i))
+Inv-loop n page₀ at i₀ page i = (i ≤ n) × Storing page₀ at (spaces n) page (at + i) (spaces (n - i))
 
 abbrev μ-loop : tie.MeasureT-loop
 μ-loop n page₀ at i₀ page i = n - i
 
 loop-holds : tie.Need-loop-holds Inv-loop μ-loop
-loop-holds c = (omega arith, rw (add-zero (c .args .at), all-blanks (c .args .n)) nothing-stored)
+loop-holds c = (omega arith, rw (add-zero (c .args .at), all-spaces (c .args .n)) nothing-stored)
 
 add-page : tie.Need-add-page Inv-loop μ-loop
 add-page c = omega arith
@@ -47,7 +47,7 @@ loop-less c = omega arith
 loop-again : tie.Need-loop-again Inv-loop μ-loop
 loop-again c =
     let l = c .before .loop in
-    (omega arith, one-stored (l .inv .1) (blanks-next _ (l .i) (omega arith)) (omega arith))
+    (omega arith, one-stored (l .inv .1) (spaces-next _ (l .i) (omega arith)) (omega arith))
 
 add-result : tie.Need-add-result Inv-loop μ-loop
 add-result c = omega arith
@@ -60,8 +60,8 @@ returns c =
     let l = c .before .loop in
     let n = c .before .before .args .n in
     let many = length-replicate n space in
-    put-sets (omega arith) (all-stored (l .inv .1) (blanks-none (n - l .i) (omega arith))) (omega arith)
+    put-sets (omega arith) (all-stored (l .inv .1) (spaces-none (n - l .i) (omega arith))) (omega arith)
 
-pub put-blanks-spec : {M : Type 1} → statement M
-put-blanks-spec =
+pub put-spaces-spec : {M : Type 1} → statement M
+put-spaces-spec =
     tie.close (tie.spec Inv-loop μ-loop loop-holds add-page slice-write-page add-i loop-less loop-again add-result same-length returns)
