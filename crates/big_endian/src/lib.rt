@@ -1,4 +1,6 @@
 // Numbers in bytes, the highest byte first (document 01, "All numbers in it are big-endian"): read and put.
+#![tactic(auto)]
+
 ghost use Rattle.std.specs.Prelude.{◌≡◌, [], ◌∷◌, ◌+◌, ◌≤◌, ◌<◌, length};
 ghost use Rattle.std.proofs.lemmas.List.Edits.{sets};
 ghost use Rattle.big_endian.specs.BigEndian.{word_at, long_at, bytes_of};

@@ -1,8 +1,10 @@
 // Dates of the span 1996-01-01 to 2099-12-31, their day numbers and weekdays (document 01, "Calendar").
+#![tactic(auto)]
+
 ghost use Rattle.std.specs.Prelude.{◌≡◌, true, ◌≤◌};
 ghost use Rattle.calendar_dates.specs.Dates.{date_of, number_of, month_length, is_date, day_of_year, day_number, weekday_of, next_day};
 
-#[derive(Drop)]
+#[derive(Clone, Copy)]
 pub struct Date {
     pub year: u32,
     pub month: u32,

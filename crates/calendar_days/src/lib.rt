@@ -1,18 +1,20 @@
 // What sort of day a date is: its season, its day type and its clock change (document 01, "Calendar", and document 02, (b) and (d)).
+#![tactic(auto)]
+
 ghost use Rattle.std.specs.Prelude.{◌≡◌, true, ◌≤◌};
 ghost use Rattle.calendar_dates.specs.Dates.{is_date, weekday_of};
 ghost use Rattle.calendar_days.specs.Days.{month_day, from, to, season, is_eve, day_type_when, day_type, last_sunday, clock, value_count_under};
 
 use calendar_dates::Date;
 
-#[derive(Drop)]
+#[derive(Clone, Copy)]
 pub enum Season {
     Winter,
     Summer,
     Transition,
 }
 
-#[derive(Drop)]
+#[derive(Clone, Copy)]
 pub enum DayType {
     Weekday,
     Saturday,
@@ -20,14 +22,14 @@ pub enum DayType {
 }
 
 // A day's season and day type, which tell its table of values.
-#[derive(Drop)]
+#[derive(Clone, Copy)]
 pub struct DayKind {
     pub season: Season,
     pub day_type: DayType,
 }
 
 // What the clocks do in a day's third hour.
-#[derive(Drop)]
+#[derive(Clone, Copy)]
 pub enum Clock {
     Unchanged,
     Forward,

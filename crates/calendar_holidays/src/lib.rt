@@ -1,5 +1,7 @@
 // The list of holidays: question 9, whether a date is listed, and the list walked along with the days of a call, where a place in it is
 // handed from day to day, so that only the first day looks for its place from the list's start.
+#![tactic(auto)]
+
 ghost use Rattle.std.specs.Prelude.{◌≡◌, ◌<◌, length};
 ghost use Rattle.refusal.specs.declared.Verdict.TheVariants.{Pass};
 ghost use Rattle.calendar_holidays.specs.Holidays.{listed, holiday_question, holidays_question};

@@ -1,5 +1,7 @@
 // The holidays that fall on another date each year (document 02, (a)): Easter, the dates that are counted from it, and the Day of
 // Repentance.
+#![tactic(auto)]
+
 ghost use Rattle.std.specs.Prelude.{◌≡◌};
 ghost use Rattle.calendar_dates.specs.Dates.{number_of};
 ghost use Rattle.calendar_movable_days.specs.Counted.{march_day};

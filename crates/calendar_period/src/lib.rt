@@ -1,5 +1,7 @@
 // The days of a period (document 01, "A period has 1 to 1,461 days"): questions 7 and 8, how many days and values a period has,
 // and its days one after the other.
+#![tactic(auto)]
+
 ghost use Rattle.std.specs.Prelude.{◌≡◌, true, ◌≤◌};
 ghost use Rattle.calendar_dates.specs.Dates.{date_of, is_date, next_day, AllDates};
 ghost use Rattle.calendar_period.specs.Period.{date_question, period_question, period_check, value_count_of_days};
@@ -9,7 +11,7 @@ use calendar_dates::Date;
 use refusal::Refusal;
 
 // A date of the span, or the refusal.
-#[derive(Drop)]
+#[derive(Clone, Copy)]
 pub enum Dated {
     Real(Date),
     Refused(Refusal),
@@ -27,7 +29,7 @@ pub fn date_in(number: u32, place: usize) -> Dated
 }
 
 // A date with its weekday and its t, which the next day's follow from.
-#[derive(Drop)]
+#[derive(Clone, Copy)]
 pub struct CalendarDay {
     pub date: Date,
     pub weekday: u32,
@@ -70,14 +72,14 @@ pub fn day_after(day: CalendarDay) -> CalendarDay
 }
 
 // A period's first day and the number of its days.
-#[derive(Drop)]
+#[derive(Clone, Copy)]
 pub struct PeriodDays {
     pub first: CalendarDay,
     pub days: u32,
 }
 
 // The days of a period, or the refusal.
-#[derive(Drop)]
+#[derive(Clone, Copy)]
 pub enum Counted {
     Days(PeriodDays),
     Refused(Refusal),

@@ -1,4 +1,6 @@
 // Reading periods inside a span, given by their first dates (document 02, (c)): questions 17 and 18, and the days of a period.
+#![tactic(auto)]
+
 ghost use Rattle.std.specs.Prelude.{◌≡◌, cond, ◌+◌, ◌-◌, ◌<◌, eqb, ltb, length, get_or, drop};
 ghost use Rattle.calendar_dates.specs.Dates.{date_of};
 ghost use Rattle.calendar_period.specs.Inside.{period_days};

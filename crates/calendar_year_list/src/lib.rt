@@ -1,5 +1,7 @@
 // The public holidays of a year (document 02, (a)): the list, gathered in lent memory from the year's end to its beginning, so that each
 // day comes to stand in front of those that were there before it.
+#![tactic(auto)]
+
 ghost use Rattle.std.specs.Prelude.{◌≡◌, cond, ◌∷◌, length, drop};
 ghost use Rattle.calendar_dates.specs.Dates.{number_of};
 ghost use Rattle.calendar_movable_days.specs.Counted.{march_day};

@@ -1,4 +1,6 @@
 // The day enquiry: questions 7 and 9, and what documents 01 and 02 say of the day.
+#![tactic(auto)]
+
 ghost use Rattle.std.specs.Prelude.{◌≡◌, true};
 ghost use Rattle.calendar_dates.specs.Dates.{is_date};
 ghost use Rattle.call_day.specs.Enquiry.{describe, day_enquiry, season_digit, day_type_digit, reported_day, reported_refusal, reported};
@@ -8,7 +10,7 @@ use calendar_days::{DayType, Season};
 use calendar_period::Dated;
 use refusal::{Refusal, Verdict};
 
-#[derive(Drop)]
+#[derive(Clone, Copy)]
 pub struct Day {
     pub weekday: u32,
     pub t: u32,
@@ -17,7 +19,7 @@ pub struct Day {
     pub value_count: u32,
 }
 
-#[derive(Drop)]
+#[derive(Clone, Copy)]
 pub enum DayAnswer {
     Described(Day),
     Refused(Refusal),
@@ -25,7 +27,7 @@ pub enum DayAnswer {
 
 // The answer as document 01's numbers: number and place, 0 when accepted, and the day's numbers, 0 when refused.
 #[repr(C)]
-#[derive(Drop)]
+#[derive(Clone, Copy)]
 pub struct DayReport {
     pub number: u32,
     pub place: usize,

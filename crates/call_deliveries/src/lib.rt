@@ -1,5 +1,7 @@
 // Over and under deliveries (document 02, (c)): for each reading period the metered energy less the balanced one, in the lent output.
 // No series is stored: a period's energy is the sum of its days'.
+#![tactic(auto)]
+
 ghost use Rattle.std.specs.Prelude.{◌≡◌, ◌++◌, ◌^◌, ◌≤◌, ◌<◌, length, drop};
 ghost use Rattle.calendar_reading_periods.specs.ReadingPeriods.{reading_periods};
 ghost use Rattle.calendar_reading_periods.specs.Inside.{PeriodsFrom};

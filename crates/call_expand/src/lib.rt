@@ -1,5 +1,7 @@
 // Expanding (document 01, "Series and carry" and questions 1 to 12): a period's series in the lent output.
 // The file is checked once, nothing is allocated, and nothing is copied but the group's values and one day's powers.
+#![tactic(auto)]
+
 ghost use Rattle.call_request.specs.Request.{request};
 ghost use Rattle.call_expand.specs.Expanding.{Expands};
 

@@ -1,4 +1,6 @@
 // What expanding answers (document 01, "Series and carry"), and the answer as document 01's numbers.
+#![tactic(auto)]
+
 ghost use Rattle.std.specs.Prelude.{◌≡◌};
 ghost use Rattle.call_expansion.specs.Answered.{reported};
 
@@ -6,7 +8,7 @@ use carry::Totals;
 use refusal::Refusal;
 
 // What expanding answers: count, total and last carry, or the refusal.
-#[derive(Drop)]
+#[derive(Clone, Copy)]
 pub enum Expansion {
     Expanded(Totals),
     Refused(Refusal),
@@ -14,7 +16,7 @@ pub enum Expansion {
 
 // The answer as document 01's numbers: number and place, 0 when accepted, and count, total and carry, 0 when refused.
 #[repr(C)]
-#[derive(Drop)]
+#[derive(Clone, Copy)]
 pub struct ExpansionReport {
     pub number: u32,
     pub place: usize,

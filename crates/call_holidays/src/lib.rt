@@ -1,4 +1,6 @@
 // The holidays of a year (document 02, (a)): questions 14, 15 and 16, and the dates at the start of the lent list.
+#![tactic(auto)]
+
 ghost use Rattle.std.specs.Prelude.{◌≡◌, ◌++◌, ◌≤◌, length, drop};
 ghost use Rattle.call_holidays.specs.Holidays.{year_question, choice_question, list_question, holidays_answer, list_after, reported};
 ghost use Rattle.call_holidays.specs.Inside.{Gives};
@@ -7,7 +9,7 @@ use calendar_year_list::MOST_DAYS;
 use refusal::{Refusal, Verdict};
 
 // How many dates were put at the start of the lent list, or the first question that did not pass.
-#[derive(Drop)]
+#[derive(Clone, Copy)]
 pub enum HolidaysAnswer {
     Listed(usize),
     Refused(Refusal),
@@ -15,7 +17,7 @@ pub enum HolidaysAnswer {
 
 // The answer in numbers: number and place, 0 when accepted, and the list's length, 0 when refused.
 #[repr(C)]
-#[derive(Drop)]
+#[derive(Clone, Copy)]
 pub struct HolidaysReport {
     pub number: u32,
     pub place: usize,

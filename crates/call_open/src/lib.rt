@@ -1,4 +1,6 @@
 // The opening of a request (document 01): questions 1 to 8, and 1 to 11, the group found, the days counted.
+#![tactic(auto)]
+
 ghost use Rattle.std.specs.Prelude.{◌≡◌, []};
 ghost use Rattle.refusal.specs.Questions.{◌then◌};
 ghost use Rattle.calendar_period.specs.Period.{period_check};
@@ -10,7 +12,7 @@ use file_group::Found;
 use refusal::{Refusal, Verdict};
 
 // What the questions found: where the group's code stands in the file, the first day and the number of days.
-#[derive(Drop)]
+#[derive(Clone, Copy)]
 pub struct Opening {
     pub at: usize,
     pub first: CalendarDay,
@@ -18,7 +20,7 @@ pub struct Opening {
 }
 
 // A request opened, or the refusal.
-#[derive(Drop)]
+#[derive(Clone, Copy)]
 pub enum Opened {
     Open(Opening),
     Refused(Refusal),

@@ -1,5 +1,7 @@
 // The day page (document 02, (e)): a line of fixed width for each day of a period, and a last line with their sums, on a lent page.
 // The file is checked once, no figure is stored, nothing is allocated, and nothing is copied but the group's values and one day's powers.
+#![tactic(auto)]
+
 ghost use Rattle.std.specs.Prelude.{◌≡◌};
 ghost use Rattle.call_request.specs.Request.{request};
 ghost use Rattle.call_page.specs.Page.{page_question, Prints};

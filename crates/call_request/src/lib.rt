@@ -1,4 +1,6 @@
 // What expanding, the day page and the program are given (document 01): a request, and its questions 9 to 12.
+#![tactic(auto)]
+
 ghost use Rattle.std.specs.Prelude.{◌≡◌};
 ghost use Rattle.refusal.specs.Questions.{room_question};
 ghost use Rattle.calendar_period.specs.Period.{value_count_of_days};

@@ -1,5 +1,6 @@
 // Series and carry (document 01): what a run of quarter hours makes of powers, a yearly use and a carry. Definitions, and the
 // laws that expanding stands on: joining two runs, and how far a run's sum lies from its exact energy.
+#![tactic(auto)]
 
 // The largest yearly use, in kWh.
 pub const LARGEST_USE: u32 = 1_000_000_000;
@@ -8,7 +9,7 @@ pub const LARGEST_USE: u32 = 1_000_000_000;
 pub const LARGEST_CARRY: u32 = 39_999;
 
 // What some quarter hours come to: their count, the sum of their figures in Wh, and the carry that they leave.
-#[derive(Drop)]
+#[derive(Clone, Copy)]
 pub struct Totals {
     pub count: usize,
     pub total: u64,

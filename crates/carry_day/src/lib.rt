@@ -1,4 +1,6 @@
 // Series and carry (document 01): one day's powers, after the clock change, made into whole watt hours with a carry.
+#![tactic(auto)]
+
 ghost use Rattle.std.specs.Prelude.{◌≡◌, ◌+◌, ◌≤◌, length};
 ghost use Rattle.std.proofs.Math.Seq.{slice};
 ghost use Rattle.calendar_days.specs.Days.{value_count_under};

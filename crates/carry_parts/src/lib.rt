@@ -1,4 +1,6 @@
 // The figures of `carry_quotients` for a yearly use of at most 500,000 kWh, with the sums kept in parts of 1/2^38 Wh.
+#![tactic(auto)]
+
 ghost use Rattle.std.specs.Prelude.{◌≤◌};
 ghost use Rattle.std.proofs.Math.Seq.{slice};
 ghost use Rattle.carry_quotients.specs.Inside.{SmallPowers, InDay, RangeCarried};

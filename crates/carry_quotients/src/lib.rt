@@ -1,9 +1,11 @@
 // Series and carry (document 01): the powers of a range of a day's positions made into whole watt hours with a carry.
+#![tactic(auto)]
+
 ghost use Rattle.std.proofs.Math.Seq.{slice};
 ghost use Rattle.carry_quotients.specs.Inside.{SmallPowers, InDay, RangeCarried};
 
 // What some quarter hours come to: the sum of their figures in Wh, and the carry that they leave.
-#[derive(Drop)]
+#[derive(Clone, Copy)]
 pub struct Carried {
     pub total: u64,
     pub carry: u32,

@@ -1,5 +1,7 @@
 // Series and carry (document 01): what one day's powers come to, after the clock change, where no figure is stored. What goes in comes
 // out as figures or as carry, so the day's figures come to one quotient, and the carry is its remainder.
+#![tactic(auto)]
+
 ghost use Rattle.std.specs.Prelude.{◌≡◌, ◌≤◌};
 ghost use Rattle.std.proofs.Math.Seq.{slice};
 ghost use Rattle.lists.specs.Lists.{sum};

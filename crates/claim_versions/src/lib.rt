@@ -1,1 +1,2 @@
 // Theorem: what a file's version changes in a series. There is no code.
+#![tactic(auto)]

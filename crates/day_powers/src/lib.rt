@@ -1,4 +1,6 @@
 // One day's powers: the table that a day uses, and the power of each of its 96 values.
+#![tactic(auto)]
+
 ghost use Rattle.std.specs.Prelude.{◌≡◌, ◌≤◌, ◌<◌};
 ghost use Rattle.day_powers.specs.DayTable.{season_place, day_type_place, day_table_index, day_table_at};
 ghost use Rattle.day_powers.specs.Inside.{DayTableInside, powers_by};

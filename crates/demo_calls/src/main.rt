@@ -1,5 +1,7 @@
 // Calling the library from a Rattle program: the day enquiry, locating a group, then expanding. The file stdout has the lines to
 // expect.
+#![tactic(auto)]
+
 mod days;
 mod lines;
 mod located;

@@ -1,6 +1,8 @@
 // Dynamisation (document 01): the factor of a day and the power that it makes of a profile's value.
 // Only our own crates call these: t is the calendar's day of the year, p and f are a checked file's value and a factor
 // of this crate.
+#![tactic(auto)]
+
 ghost use Rattle.std.specs.Prelude.{◌≡◌, ◌≤◌};
 ghost use Rattle.dynamisation.specs.Dynamisation.{X, F, Q};
 

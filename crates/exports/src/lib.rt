@@ -1,5 +1,7 @@
 // The calls of documents 01 and 02 for other languages: numbers and slices in, structs of numbers out. A slice goes as a pointer and a
 // length. Each has the contract of the call that it makes, by the numbers of its answer.
+#![tactic(auto)]
+
 ghost use Rattle.std.specs.Prelude.{◌≡◌, length};
 ghost use Rattle.refusal.specs.Questions.{reported};
 ghost use Rattle.file_group.specs.Group.{check};

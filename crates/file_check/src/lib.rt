@@ -1,4 +1,6 @@
 // Questions 1 to 5: is this a profile file? Question 4 is here; everything is asked in the order of document 01.
+#![tactic(auto)]
+
 ghost use Rattle.std.specs.Prelude.{◌≡◌};
 ghost use Rattle.refusal.specs.Questions.{reported};
 ghost use Rattle.file_layout.specs.Inside.{LaidOut};

@@ -1,4 +1,6 @@
 // Comparing two groups of a file: questions 1 to 6, and whether all their values agree.
+#![tactic(auto)]
+
 ghost use Rattle.std.specs.Prelude.{◌≡◌, length};
 ghost use Rattle.big_endian.specs.Inside.{words_of};
 ghost use Rattle.file_compare.specs.Comparing.{same, comparison, reported};
@@ -7,7 +9,7 @@ use file_group::Found;
 use refusal::Refusal;
 
 // What comparing two groups says.
-#[derive(Drop)]
+#[derive(Clone, Copy)]
 pub enum Comparison {
     Alike,
     Different,
@@ -16,7 +18,7 @@ pub enum Comparison {
 
 // The answer in numbers: number and place are 0 when the groups were compared.
 #[repr(C)]
-#[derive(Drop)]
+#[derive(Clone, Copy)]
 pub struct ComparisonReport {
     pub number: u32,
     pub place: usize,

@@ -1,4 +1,6 @@
 // A wanted group of a profile file (document 01): question 6, and where the group's values stand.
+#![tactic(auto)]
+
 ghost use Rattle.std.specs.Prelude.{◌≡◌, ◌+◌, ◌≤◌, length};
 ghost use Rattle.refusal.specs.Questions.{reported};
 ghost use Rattle.file_layout.specs.Header.{layout_of, profile_length};
@@ -9,7 +11,7 @@ ghost use Rattle.file_group.specs.Inside.{found_by, verdict_of, ValueBytesOf};
 use refusal::{Refusal, Verdict};
 
 // Where a group's code stands in a file, or the refusal.
-#[derive(Drop)]
+#[derive(Clone, Copy)]
 pub enum Found {
     At(usize),
     Refused(Refusal),

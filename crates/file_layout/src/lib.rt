@@ -1,4 +1,6 @@
 // The header of a profile file: mark, version and count, how the profiles lie, and questions 1 to 3.
+#![tactic(auto)]
+
 ghost use Rattle.std.specs.Prelude.{◌≡◌, ◌≤◌, ◌<◌, length};
 ghost use Rattle.file_layout.specs.Header.{header_length, layout_of, profile_length, mark_question, version_question, length_question, header_check};
 ghost use Rattle.file_layout.specs.Inside.{Sound};
@@ -12,7 +14,7 @@ pub const MARK: [u8; 3] = *b"SLP";
 pub const HEADER_LENGTH: usize = 6;
 
 // How the profiles of a file lie: their count, and of each the bytes before its values and the number of its values.
-#[derive(Drop)]
+#[derive(Clone, Copy)]
 pub struct Layout {
     pub count: usize,
     pub before: usize,

@@ -1,4 +1,6 @@
 // Locating a group: its own value bytes as a part of the lent file, or their offset and length.
+#![tactic(auto)]
+
 ghost use Rattle.std.specs.Prelude.{◌≡◌};
 ghost use Rattle.file_locate.specs.Locating.{Located, located_part};
 
@@ -6,7 +8,7 @@ use file_group::Found;
 
 // A part of a file by its place: what stands for `locate`'s answer where no slice can be handed back.
 #[repr(C)]
-#[derive(Drop)]
+#[derive(Clone, Copy)]
 pub struct LocatedPart {
     pub offset: usize,
     pub length: usize,

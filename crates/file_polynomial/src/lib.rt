@@ -1,4 +1,6 @@
 // A profile's polynomial in a file (document 02, (f)): questions 20 and 21, and the polynomial by value.
+#![tactic(auto)]
+
 ghost use mathlib.Core.Path.{◌≡◌};
 ghost use mathlib.Core.Bool.{true};
 ghost use Prim.Native.Nat.{◌+◌, ◌^◌, ◌≤◌, ◌<◌};

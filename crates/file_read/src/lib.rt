@@ -1,4 +1,6 @@
 // Reading a group into a lent table: questions 1 to 6 and 12.
+#![tactic(auto)]
+
 ghost use Rattle.std.specs.Prelude.{◌≡◌, ◌++◌, ◌+◌, ◌/◌, ◌≤◌, length, drop};
 ghost use Rattle.big_endian.specs.Inside.{words_of};
 ghost use Rattle.refusal.specs.Questions.{reported};

@@ -1,4 +1,6 @@
 // Question 5: are all values of a profile file at most 20,000?
+#![tactic(auto)]
+
 ghost use Rattle.std.specs.Prelude.{◌≡◌, ◌+◌, ◌*◌, ◌≤◌, length};
 ghost use Rattle.file_layout.specs.Header.{profile_length};
 ghost use Rattle.file_layout.specs.Inside.{LaidOut};

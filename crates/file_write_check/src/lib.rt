@@ -1,5 +1,7 @@
 // Writing's questions 3, 4, 5 and 12. Nothing is written before all have passed, so 4 and 5 are asked of the lent codes and
 // values, and shown to be the reader's questions of the file to be written.
+#![tactic(auto)]
+
 ghost use Rattle.std.specs.Prelude.{◌≡◌, ◌&&◌, ◌||◌, List, ℕ, ◌+◌, ◌*◌, ◌≤◌, leb, ltb, eqb, length};
 ghost use Rattle.refusal.specs.declared.Refusal.TheVariants.{BadCode};
 ghost use Rattle.refusal.specs.Questions.{ask};

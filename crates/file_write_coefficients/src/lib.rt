@@ -1,5 +1,7 @@
 // Writing's questions 20 and 21, asked of the lent coefficients before anything is written, and shown to be the reader's of the file to
 // be written.
+#![tactic(auto)]
+
 ghost use mathlib.Core.Path.{◌≡◌};
 ghost use mathlib.Core.List.{List};
 ghost use Prim.Native.Nat.{ℕ, ◌*◌, ◌≤◌, ◌<◌};

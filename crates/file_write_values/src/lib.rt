@@ -1,4 +1,6 @@
 // Writing's question 5, asked of the lent values before anything is written, and shown to be the reader's of the file to be written.
+#![tactic(auto)]
+
 ghost use Rattle.std.specs.Prelude.{◌≡◌, List, ℕ, ◌*◌, ◌≤◌, leb, length};
 ghost use Rattle.big_endian.specs.BigEndian.{words_from};
 ghost use Rattle.refusal.specs.declared.Refusal.TheVariants.{BadValue};

@@ -1,11 +1,13 @@
 // The dynamisation's polynomial of the day of the year (document 01, "Dynamisation"; document 02, (f)): its coefficients as whole
 // numbers, and its value X.
+#![tactic(auto)]
+
 ghost use Rattle.std.specs.Prelude.{◌≡◌};
 ghost use Rattle.polynomial.specs.Polynomial.{X, Limited};
 ghost use Rattle.polynomial.specs.Inside.{Day};
 
 // The five coefficients, for t^4 down to t^0, in units of 10^-12.
-#[derive(Drop)]
+#[derive(Clone, Copy)]
 pub struct Coefficients {
     pub t4: i64,
     pub t3: i64,

@@ -1,5 +1,7 @@
 // The polynomial as a file of version 2 has it (document 02, (f)): five binary64 numbers. Which numbers are allowed, and the whole
 // numbers that they are.
+#![tactic(auto)]
+
 ghost use Rattle.std.specs.Prelude.{◌≡◌, ◌^◌, ◌≤◌, from_bits, unsigned_abs};
 ghost use Rattle.std.specs.Float.{binary64};
 ghost use Rattle.polynomial.specs.Polynomial.{implied};
@@ -10,7 +12,7 @@ use polynomial::Coefficients;
 
 // The five coefficients, for t^4 down to t^0, in units of 10^-12.
 #[repr(C)]
-#[derive(Drop)]
+#[derive(Clone, Copy)]
 pub struct Polynomial {
     pub t4: f64,
     pub t3: f64,

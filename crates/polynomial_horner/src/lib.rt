@@ -1,4 +1,6 @@
 // Question 21's evaluation of a file's polynomial (document 02, (f)): in floats, by Horner's rule, which loses nothing.
+#![tactic(auto)]
+
 ghost use Rattle.std.specs.Prelude.{◌≡◌, true, T};
 ghost use Rattle.std.specs.Float.{binary64};
 ghost use Rattle.std.specs.Float.Ieee.{in_signed};

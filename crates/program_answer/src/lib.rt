@@ -1,4 +1,6 @@
 // The lines that answer a request (document 01, "The program"): those of its days and the last one, or the refusal.
+#![tactic(auto)]
+
 ghost use Rattle.std.specs.Prelude.{[], ◌≤◌, length};
 ghost use Rattle.call_request.specs.Request.{request};
 ghost use Rattle.text.specs.Inside.{Put};

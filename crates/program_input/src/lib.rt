@@ -1,4 +1,6 @@
 // The program's input (document 01, "The program"): question 13, and the request that the bytes hold.
+#![tactic(auto)]
+
 ghost use Rattle.std.specs.Prelude.{◌≡◌, ◌≤◌, ◌<◌, length, drop};
 ghost use Rattle.program_input.specs.Input.{head_length, file_start, input_question};
 ghost use Rattle.program_input.specs.Inside.{head_of, headed_by, CompleteInput, ListRead};
@@ -12,7 +14,7 @@ pub const HEAD_LENGTH: usize = 15;
 pub const LIST_ROOM: usize = 401;
 
 // The numbers at the start of the input.
-#[derive(Drop)]
+#[derive(Clone, Copy)]
 pub struct Head {
     pub group: u8,
     pub first: u32,
@@ -22,7 +24,7 @@ pub struct Head {
 }
 
 // The head of an input, or the refusal.
-#[derive(Drop)]
+#[derive(Clone, Copy)]
 pub enum Headed {
     Complete(Head),
     Refused(Refusal),

@@ -1,4 +1,6 @@
 // The line of a refusal (document 01, "The program"), put on a lent page.
+#![tactic(auto)]
+
 ghost use Rattle.std.specs.Prelude.{◌+◌, ◌≤◌, length};
 ghost use Rattle.text.specs.Inside.{Put};
 ghost use Rattle.program_refusal.specs.Refused.{refused_line};

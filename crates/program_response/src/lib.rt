@@ -1,4 +1,6 @@
 // What the program answers to an input (document 01, "The program"), on a lent page.
+#![tactic(auto)]
+
 ghost use Rattle.std.specs.Prelude.{◌≡◌};
 ghost use Rattle.program_response.specs.Responding.{response_to, page_after, reported};
 ghost use Rattle.program_response.specs.Inside.{Answers};
@@ -9,7 +11,7 @@ use refusal::{Refusal, Verdict};
 pub const PAGE_LENGTH: usize = 65_536;
 
 // How many bytes were put at the start of the page, or that it has too little room for them.
-#[derive(Drop)]
+#[derive(Clone, Copy)]
 pub enum Response {
     Written(usize),
     Refused(Refusal),
@@ -17,7 +19,7 @@ pub enum Response {
 
 // The answer in numbers: number and place, 0 when the text was written, and its length, 0 when refused.
 #[repr(C)]
-#[derive(Drop)]
+#[derive(Clone, Copy)]
 pub struct ResponseReport {
     pub number: u32,
     pub place: usize,

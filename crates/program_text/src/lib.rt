@@ -1,4 +1,6 @@
 // The text that the program prints for an input (document 01, "The program"), put on a page that has room for any.
+#![tactic(auto)]
+
 ghost use Rattle.std.specs.Prelude.{◌≡◌, ◌≤◌, length};
 ghost use Rattle.text.specs.Inside.{Put};
 ghost use Rattle.program_input.specs.Input.{request_in};

@@ -1,9 +1,11 @@
 // What a check answers (document 01, "The questions, first "no" counts"), and document 01's number and place for it.
+#![tactic(auto)]
+
 ghost use Rattle.std.specs.Prelude.{◌≡◌};
 ghost use Rattle.refusal.specs.Questions.{refusal_number, refusal_place, reported, room_question};
 
 // The question that did not pass, with its place where document 01 or 02 names one.
-#[derive(Drop)]
+#[derive(Clone, Copy)]
 pub enum Refusal {
     NoMark,
     WrongVersion,
@@ -27,7 +29,7 @@ pub enum Refusal {
 }
 
 // Every question asked passed, or the first one that did not.
-#[derive(Drop)]
+#[derive(Clone, Copy)]
 pub enum Verdict {
     Pass,
     Refused(Refusal),
@@ -35,7 +37,7 @@ pub enum Verdict {
 
 // A verdict in document 01's numbers.
 #[repr(C)]
-#[derive(Drop)]
+#[derive(Clone, Copy)]
 pub struct CheckReport {
     pub number: u32,
     pub place: usize,

@@ -1,4 +1,6 @@
 // Series and carry (document 01): a period's figures, day by day, with the carry handed from day to day.
+#![tactic(auto)]
+
 ghost use Rattle.std.specs.Prelude.{◌≡◌, ◌≤◌, ◌<◌, length};
 ghost use Rattle.refusal.specs.declared.Verdict.TheVariants.{Pass};
 ghost use Rattle.calendar_dates.specs.Dates.{day_of_year};

@@ -1,4 +1,6 @@
 // Series and carry (document 01): what days come to, where no figure is stored, with the carry handed from day to day.
+#![tactic(auto)]
+
 ghost use Rattle.std.specs.Prelude.{◌≡◌};
 ghost use Rattle.refusal.specs.declared.Verdict.TheVariants.{Pass};
 ghost use Rattle.calendar_holidays.specs.Holidays.{holidays_question};
@@ -15,7 +17,7 @@ use calendar_period::CalendarDay;
 use carry::Totals;
 
 // A day worked out, none of its figures stored: its season and day type, and what its figures come to.
-#[derive(Drop)]
+#[derive(Clone, Copy)]
 pub struct DayTotals {
     pub kind: DayKind,
     pub totals: Totals,

@@ -1,6 +1,8 @@
 // The program (document 01, "The program"): reads a request from standard input and prints its lines. What it prints is made and
 // proved by the crate `program_response`; here is only reading and writing. A Rattle program has no exit status: a read or a write that
 // fails is said on standard error.
+#![tactic(auto)]
+
 ghost use Rattle.std.specs.Prelude.{◌≡◌, ◌≤◌, length, take};
 ghost use Rattle.program_answer.specs.Accepted.{page_length};
 ghost use Rattle.program_response.specs.Responding.{page_after};

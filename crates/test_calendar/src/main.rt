@@ -1,6 +1,8 @@
 // A second calendar against `call_day`, over every day from 1996-01-01 to 2099-12-31: with no list of holidays, with a list that has
 // the day alone, and with one that has 24, 25, 26 and 31 December of its year. Each day whose figures differ is written as a line,
 // then how many agree. The file stdout has the lines to expect.
+#![tactic(auto)]
+
 mod second;
 
 ghost use Rattle.std.specs.Prelude.{◌≤◌};

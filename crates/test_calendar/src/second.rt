@@ -3,7 +3,7 @@
 ghost use Rattle.std.specs.Prelude.{◌≤◌};
 
 // A day's figures, in the order of the enquiry's report: number and place are 0 when it is not refused.
-#[derive(Drop)]
+#[derive(Clone, Copy)]
 pub struct Figures {
     pub number: u32,
     pub place: usize,
@@ -15,7 +15,7 @@ pub struct Figures {
 }
 
 // The list of holidays that a day is asked about with.
-#[derive(Drop)]
+#[derive(Clone, Copy)]
 pub enum Listed {
     Nothing,
     // the day alone

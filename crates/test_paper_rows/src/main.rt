@@ -3,6 +3,8 @@
 // day type, place in the file, factor, power and scaling are all tested. Each cell that differs is written as a line,
 // then how many of the table agree. The file stdout has the lines to expect: of Abb. 6 two powers for which the paper took the
 // factor before its rounding, and the regional row of day 174, where the paper printed the row of day 172 again.
+#![tactic(auto)]
+
 mod file;
 mod households;
 mod lines;
@@ -13,7 +15,7 @@ ghost use Rattle.std.specs.Prelude.{◌≤◌, ◌<◌};
 
 // Whose figures a table's powers are compared with, and how many units of a figure make a tenth of a watt. For 40,000 kWh a
 // year a figure is Q * 40,000 / 40,000, so it is Q, and its unit is a tenth of a watt.
-#[derive(Drop)]
+#[derive(Clone, Copy)]
 pub struct Scale {
     pub group: u8,
     pub yearly: u32,

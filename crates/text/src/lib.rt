@@ -1,4 +1,6 @@
 // Text (document 01, "The program"): numbers and dates put into a lent page, one behind the other.
+#![tactic(auto)]
+
 ghost use Rattle.std.specs.Prelude.{◌≡◌, true, [], ◌∷◌, ◌+◌, ◌≤◌, ◌<◌, length};
 ghost use Rattle.calendar_dates.specs.Dates.{is_date};
 ghost use Rattle.text.specs.Inside.{Put, last_digits};

@@ -1,4 +1,6 @@
 // Fields of a fixed width (document 02, (e)), put on a lent page.
+#![tactic(auto)]
+
 ghost use Rattle.std.specs.Prelude.{◌≡◌, ◌+◌, ◌^◌, ◌≤◌, ◌<◌, length};
 ghost use Rattle.text.specs.Inside.{Put};
 ghost use Rattle.text_columns.specs.Columns.{spaces, right_aligned};

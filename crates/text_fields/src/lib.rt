@@ -1,4 +1,6 @@
 // Fields of a line (document 01, "The program"), put on a lent page: a number behind a space, and the day type.
+#![tactic(auto)]
+
 ghost use Rattle.std.specs.Prelude.{◌≡◌, ◌+◌, ◌≤◌, length};
 ghost use Rattle.text.specs.Inside.{Put};
 ghost use Rattle.text_fields.specs.Fields.{season_letter, day_type_text, field};

@@ -1,5 +1,7 @@
 // A line for each day of a period, put on a lent page one after the other, in the program's form (document 01, "The program") or in
 // the day page's (document 02, (e)).
+#![tactic(auto)]
+
 ghost use Rattle.std.specs.Prelude.{◌≡◌, true, ◌+◌, ◌*◌, ◌^◌, ◌≤◌, ◌<◌, length};
 ghost use Rattle.refusal.specs.declared.Verdict.TheVariants.{Pass};
 ghost use Rattle.calendar_dates.specs.Dates.{is_date};
@@ -17,14 +19,14 @@ use calendar_period::CalendarDay;
 use carry::Totals;
 
 // The two forms of a day's line.
-#[derive(Drop)]
+#[derive(Clone, Copy)]
 pub enum Form {
     Program,
     Page,
 }
 
 // The place behind the lines so far, and what their days come to.
-#[derive(Drop)]
+#[derive(Clone, Copy)]
 pub struct Lines {
     pub at: usize,
     pub totals: Totals,

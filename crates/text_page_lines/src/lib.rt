@@ -1,4 +1,6 @@
 // The text of the day page's lines (document 02, (e)), put on a lent page. Each has 38 bytes.
+#![tactic(auto)]
+
 ghost use Rattle.std.specs.Prelude.{◌≡◌, true, ◌+◌, ◌^◌, ◌≤◌, ◌<◌, length};
 ghost use Rattle.calendar_dates.specs.Dates.{is_date};
 ghost use Rattle.series_rows.specs.Rows.{row_of};

@@ -1,4 +1,6 @@
 // The text of the program's lines (document 01, "The program"), put on a lent page.
+#![tactic(auto)]
+
 ghost use Rattle.std.specs.Prelude.{◌≡◌, true, ◌+◌, ◌≤◌, ◌<◌, length};
 ghost use Rattle.calendar_dates.specs.Dates.{is_date};
 ghost use Rattle.series_rows.specs.Rows.{row_of};
