@@ -3,7 +3,7 @@
 use crate::lines;
 use calendar_days::Season;
 use call_day::{Day, DayAnswer};
-use libc::STDOUT_FILENO;
+use std::io;
 
 // The federal holidays of 2000, of source document 000.
 const HOLIDAYS: [u32; 11] = [
@@ -25,61 +25,61 @@ const DATES: [u32; 19] = [
     21000101,
 ];
 
-pub fn show() {
+pub fn show(rt: &HostRuntime) -> io::Result<()> {
     let mut i: usize = 0;
     while i < 19 {
-        write_federal(DATES[i]);
+        write_federal(rt, DATES[i])?;
         i += 1;
     }
-    show_agreed();
-    write_repeated();
+    show_agreed(rt)?;
+    write_repeated(rt)
 }
 
-fn show_agreed() {
-    write_agreed(19991223);
-    write_agreed(19991224);
-    write_agreed(19991225);
-    write_agreed(19991231);
-    write_agreed(20001224);
+fn show_agreed(rt: &HostRuntime) -> io::Result<()> {
+    write_agreed(rt, 19991223)?;
+    write_agreed(rt, 19991224)?;
+    write_agreed(rt, 19991225)?;
+    write_agreed(rt, 19991231)?;
+    write_agreed(rt, 20001224)
 }
 
-fn write_federal(date: u32) {
-    write_answer(date, &HOLIDAYS);
+fn write_federal(rt: &HostRuntime, date: u32) -> io::Result<()> {
+    write_answer(rt, date, &HOLIDAYS)
 }
 
-fn write_agreed(date: u32) {
-    write_answer(date, &AGREED);
+fn write_agreed(rt: &HostRuntime, date: u32) -> io::Result<()> {
+    write_answer(rt, date, &AGREED)
 }
 
-fn write_repeated() {
-    write_answer(20000101, &REPEATED);
+fn write_repeated(rt: &HostRuntime) -> io::Result<()> {
+    write_answer(rt, 20000101, &REPEATED)
 }
 
 // One line.
-fn write_answer(date: u32, holidays: &[u32]) {
-    lines::write_date(date);
+fn write_answer(rt: &HostRuntime, date: u32, holidays: &[u32]) -> io::Result<()> {
+    lines::write_date(rt, date)?;
     let answer = call_day::enquire(date, holidays);
     match answer {
-        DayAnswer::Described(day) => write_day(day),
-        DayAnswer::Refused(v) => lines::write_refusal(refusal::number_of(v), refusal::place_of(v)),
+        DayAnswer::Described(day) => write_day(rt, day)?,
+        DayAnswer::Refused(v) => {
+            lines::write_refusal(rt, refusal::number_of(v), refusal::place_of(v))?
+        }
     }
-    io::write_all(STDOUT_FILENO, b"\n");
+    println!(rt; "")
 }
 
-fn write_day(day: Day) {
-    let season = day.season;
-    let day_type = day.day_type;
-    lines::write_next(day.weekday as u64);
-    lines::write_next(day.t as u64);
-    io::write_all(STDOUT_FILENO, &[b' ', season_letter(season)]);
-    lines::write_number(call_day::day_type_digit(day_type) as u64);
-    lines::write_next(day.value_count as u64);
+fn write_day(rt: &HostRuntime, day: Day) -> io::Result<()> {
+    lines::write_next(rt, day.weekday as u64)?;
+    lines::write_next(rt, day.t as u64)?;
+    print!(rt; " {}", season_letter(day.season))?;
+    lines::write_number(rt, call_day::day_type_digit(day.day_type) as u64)?;
+    lines::write_next(rt, day.value_count as u64)
 }
 
-fn season_letter(s: Season) -> u8 {
+fn season_letter(s: Season) -> char {
     match s {
-        Season::Winter => b'W',
-        Season::Summer => b'S',
-        Season::Transition => b'T',
+        Season::Winter => 'W',
+        Season::Summer => 'S',
+        Season::Transition => 'T',
     }
 }

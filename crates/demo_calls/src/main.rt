@@ -7,8 +7,10 @@ mod lines;
 mod located;
 mod two_days;
 
-fn main() {
-    days::show();
-    located::show();
-    two_days::show();
+use std::io;
+
+fn main(rt: HostRuntime) -> io::Result<()> {
+    days::show(&rt)?;
+    located::show(&rt)?;
+    two_days::show(&rt)
 }

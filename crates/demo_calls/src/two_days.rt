@@ -3,20 +3,28 @@
 // or the refusal. The last call's output is too short.
 use crate::lines;
 use call_expansion::ExpansionReport;
-use libc::STDOUT_FILENO;
+use std::io;
 
-pub fn show() {
+pub fn show(rt: &HostRuntime) -> io::Result<()> {
     let mut file = [0u8; 1735];
     file_write::write(&[1], &[1001; 864], &mut file);
     let mut figures = [0u32; 188];
-    let first = expand(&file, 20000325, 20000325, 0, &mut figures);
-    expand(&file, 20000326, 20000326, first.carry, &mut figures);
-    expand(&file, 20000325, 20000326, 0, &mut figures);
-    expand(&file, 20000325, 20000327, 0, &mut figures);
+    let first = expand(rt, &file, 20000325, 20000325, 0, &mut figures)?;
+    expand(rt, &file, 20000326, 20000326, first.carry, &mut figures)?;
+    expand(rt, &file, 20000325, 20000326, 0, &mut figures)?;
+    expand(rt, &file, 20000325, 20000327, 0, &mut figures)?;
+    Ok(())
 }
 
 // Expands a period and writes its line.
-fn expand(file: &[u8], first: u32, last: u32, carry: u32, figures: &mut [u32]) -> ExpansionReport {
+fn expand(
+    rt: &HostRuntime,
+    file: &[u8],
+    first: u32,
+    last: u32,
+    carry: u32,
+    figures: &mut [u32],
+) -> io::Result<ExpansionReport> {
     let answer = call_expansion::report(call_expand::expand(
         file,
         1,
@@ -27,16 +35,16 @@ fn expand(file: &[u8], first: u32, last: u32, carry: u32, figures: &mut [u32]) -
         carry,
         figures,
     ));
-    lines::write_date(first);
-    io::write_all(STDOUT_FILENO, b" ");
-    lines::write_date(last);
+    lines::write_date(rt, first)?;
+    print!(rt; " ")?;
+    lines::write_date(rt, last)?;
     if answer.number == 0 {
-        lines::write_next(answer.count as u64);
-        lines::write_next(answer.total);
-        lines::write_next(answer.carry as u64);
+        lines::write_next(rt, answer.count as u64)?;
+        lines::write_next(rt, answer.total)?;
+        lines::write_next(rt, answer.carry as u64)?;
     } else {
-        lines::write_refusal(answer.number, answer.place);
+        lines::write_refusal(rt, answer.number, answer.place)?;
     }
-    io::write_all(STDOUT_FILENO, b"\n");
-    answer
+    println!(rt; "")?;
+    Ok(answer)
 }

@@ -5,33 +5,30 @@
 
 mod second;
 
-ghost use Rattle.std.specs.Prelude.{◌≤◌};
+ghost use Rattle.std.specs.Prelude.{◌≤◌, IfOk};
 
-use libc::STDOUT_FILENO;
 use second::{Figures, Listed};
+use std::io;
 
-fn main() {
-    compare_span(Listed::Nothing);
-    io::write_all(STDOUT_FILENO, b" days agree with no list\n");
-    compare_span(Listed::Day);
-    io::write_all(STDOUT_FILENO, b" days agree with the day listed\n");
-    compare_span(Listed::YearEnd);
-    io::write_all(
-        STDOUT_FILENO,
-        b" days agree with 24, 25, 26 and 31 December listed\n",
-    );
+fn main(rt: HostRuntime) -> io::Result<()> {
+    compare_span(&rt, Listed::Nothing)?;
+    println!(rt; " days agree with no list")?;
+    compare_span(&rt, Listed::Day)?;
+    println!(rt; " days agree with the day listed")?;
+    compare_span(&rt, Listed::YearEnd)?;
+    println!(rt; " days agree with 24, 25, 26 and 31 December listed")
 }
 
 // Writes how many days agree, of how many, and leaves the rest of the line to its caller. The weekday is counted on from 1 January
 // 1996, a Monday.
-fn compare_span(listed: Listed) {
+fn compare_span(rt: &HostRuntime, listed: Listed) -> io::Result<()> {
     let mut year: u32 = 1996;
     let mut t: u32 = 1;
     let mut weekday: u32 = 1;
     let mut days: u32 = 0;
     let mut agree: u32 = 0;
     while year < 2100 {
-        agree += compare(year, t, weekday, listed);
+        agree += compare(rt, year, t, weekday, listed)?;
         days += 1;
         weekday = weekday % 7 + 1;
         t += 1;
@@ -40,28 +37,32 @@ fn compare_span(listed: Listed) {
             t = 1;
         }
     }
-    write_number(agree);
-    io::write_all(STDOUT_FILENO, b" of ");
-    write_number(days);
+    print!(rt; "{agree} of {days}")
 }
 
 // 1 where the day's figures agree. Else 0, after a line with the date, the enquiry's figures and the second calendar's.
-fn compare(year: u32, t: u32, weekday: u32, listed: Listed) -> u32
+fn compare(
+    rt: &HostRuntime,
+    year: u32,
+    t: u32,
+    weekday: u32,
+    listed: Listed,
+) -> io::Result<u32>
     requires { (year ≤ 2099) × ((1 ≤ t) × (t ≤ 366)) }
-    ensures { result ≤ 1 }
+    ensures { IfOk result (λ n. n ≤ 1) }
 {
     let date = second::date_of(year, t);
     let answered = enquired(date, year, listed);
     let expected = second::figures_of(year, t, weekday, listed);
     if same(answered, expected) {
-        return 1;
+        return Ok(1);
     }
-    write_number(date);
-    write_figures(answered);
-    io::write_all(STDOUT_FILENO, b", not");
-    write_figures(expected);
-    io::write_all(STDOUT_FILENO, b"\n");
-    0
+    print!(rt; "{date}")?;
+    write_figures(rt, answered)?;
+    print!(rt; ", not")?;
+    write_figures(rt, expected)?;
+    println!(rt; "")?;
+    Ok(0)
 }
 
 // What `call_day` answers with the list.
@@ -109,23 +110,7 @@ fn same(a: Figures, b: Figures) -> bool {
 }
 
 // Each figure after a space.
-fn write_figures(f: Figures) {
-    write_next(f.number);
-    io::write_all(STDOUT_FILENO, b" ");
-    io::print_decimal(STDOUT_FILENO, f.place as u64);
-    write_next(f.weekday);
-    write_next(f.t);
-    write_next(f.season);
-    write_next(f.day_type);
-    write_next(f.values);
-}
-
-// A space and a number.
-fn write_next(n: u32) {
-    io::write_all(STDOUT_FILENO, b" ");
-    write_number(n);
-}
-
-fn write_number(n: u32) {
-    io::print_decimal(STDOUT_FILENO, n as u64);
+fn write_figures(rt: &HostRuntime, f: Figures) -> io::Result<()> {
+    print!(rt; " {} {} {}", f.number, f.place, f.weekday)?;
+    print!(rt; " {} {} {} {}", f.t, f.season, f.day_type, f.values)
 }

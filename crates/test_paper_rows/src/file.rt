@@ -2,14 +2,16 @@
 ghost use Rattle.std.specs.Prelude.{◌≤◌, ◌<◌};
 
 use crate::{households, lines, rows, trade};
+use std::io;
 
 pub const LENGTH: usize = 3464;
 
-pub fn make(file: &mut [u8; LENGTH]) {
+pub fn make(rt: &HostRuntime, file: &mut [u8; LENGTH]) -> io::Result<()> {
     let mut values = [0u16; 1728];
-    fill(&mut values, 0, &households::VALUES);
-    fill(&mut values, 864, &trade::VALUES);
+    fill(rt, &mut values, 0, &households::VALUES)?;
+    fill(rt, &mut values, 864, &trade::VALUES)?;
     write(&values, file);
+    Ok(())
 }
 
 fn write(values: &[u16; 1728], file: &mut [u8; LENGTH]) {
@@ -17,18 +19,31 @@ fn write(values: &[u16; 1728], file: &mut [u8; LENGTH]) {
 }
 
 // The values of all rows into the group that starts at `start`. Those of the other quarter hours stay 0.
-fn fill(values: &mut [u16; 1728], start: usize, table: &[[u16; 8]; 20])
+fn fill(
+    rt: &HostRuntime,
+    values: &mut [u16; 1728],
+    start: usize,
+    table: &[[u16; 8]; 20],
+) -> io::Result<()>
     requires { start ≤ 864 }
 {
     let mut cell: usize = 0;
     while cell < 160 {
-        put(values, start, table, cell / 8, cell % 8);
+        put(rt, values, start, table, cell / 8, cell % 8)?;
         cell += 1;
     }
+    Ok(())
 }
 
 // The value of row i and column j. Rows of one day table have to agree: where they do not, a line has the place.
-fn put(values: &mut [u16; 1728], start: usize, table: &[[u16; 8]; 20], i: usize, j: usize)
+fn put(
+    rt: &HostRuntime,
+    values: &mut [u16; 1728],
+    start: usize,
+    table: &[[u16; 8]; 20],
+    i: usize,
+    j: usize,
+) -> io::Result<()>
     requires { (start ≤ 864) × (i < 20) × (j < 8) }
 {
     let at = start + rows::table_start(i) + rows::position(j);
@@ -36,8 +51,9 @@ fn put(values: &mut [u16; 1728], start: usize, table: &[[u16; 8]; 20], i: usize,
     let before = values[at];
     if before != 0 {
         if before != value {
-            lines::write_conflict(at);
+            lines::write_conflict(rt, at)?;
         }
     }
     values[at] = value;
+    Ok(())
 }

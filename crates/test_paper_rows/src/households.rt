@@ -1,7 +1,8 @@
 // Households, group H0: Abb. 5 and 6.
-ghost use Rattle.std.specs.Prelude.{◌≤◌, ◌<◌};
+ghost use Rattle.std.specs.Prelude.{◌≤◌, ◌<◌, IfOk};
 
 use crate::{Scale, file, lines, rows};
+use std::io;
 
 // Abb. 5: the factors of the rows in units of 1/10,000, 0 where none is printed: the regional rows have none.
 const FACTORS: [u32; 20] = [
@@ -57,45 +58,45 @@ const POWERS: [[u16; 8]; 20] = [
     [699, 623, 557, 505, 1116, 1139, 1159, 1172],
 ];
 
-pub fn compare_powers(file: &[u8; file::LENGTH]) {
+pub fn compare_powers(rt: &HostRuntime, file: &[u8; file::LENGTH]) -> io::Result<()> {
     let scale = Scale {
         group: 0,
         yearly: 40_000,
         unit: 1,
     };
-    let agree = crate::compare(file, scale, &VALUES, &POWERS);
-    lines::write_tally(b"Abb. 6: ", agree, 160);
+    let agree = crate::compare(rt, file, scale, &VALUES, &POWERS)?;
+    lines::write_tally(rt, "Abb. 6: ", agree, 160)
 }
 
-pub fn compare_factors() {
-    lines::write_tally(b"Abb. 5, factors: ", agreeing_factors(), 18);
+pub fn compare_factors(rt: &HostRuntime) -> io::Result<()> {
+    lines::write_tally(rt, "Abb. 5, factors: ", agreeing_factors(rt)?, 18)
 }
 
-fn agreeing_factors() -> u32 {
+fn agreeing_factors(rt: &HostRuntime) -> io::Result<u32> {
     let mut agree: u32 = 0;
     let mut i: usize = 0;
     while i < 20 {
-        agree += compare_factor(i);
+        agree += compare_factor(rt, i)?;
         i += 1;
     }
-    agree
+    Ok(agree)
 }
 
 // 1 where the factor of row i agrees with the printed one. Else 0, after a line with the day and both; without a line where
 // none is printed.
-fn compare_factor(i: usize) -> u32
+fn compare_factor(rt: &HostRuntime, i: usize) -> io::Result<u32>
     requires { i < 20 }
-    ensures { result ≤ 1 }
+    ensures { IfOk result (λ n. n ≤ 1) }
 {
     let printed = FACTORS[i];
     if printed == 0 {
-        return 0;
+        return Ok(0);
     }
     let t = rows::day(i);
     let ours = dynamisation::factor(0, t);
     if ours == printed {
-        return 1;
+        return Ok(1);
     }
-    lines::write_factor(t, ours, printed);
-    0
+    lines::write_factor(rt, t, ours, printed)?;
+    Ok(0)
 }

@@ -11,7 +11,9 @@ mod lines;
 mod rows;
 mod trade;
 
-ghost use Rattle.std.specs.Prelude.{◌≤◌, ◌<◌};
+ghost use Rattle.std.specs.Prelude.{◌≤◌, ◌<◌, IfOk};
+
+use std::io;
 
 // Whose figures a table's powers are compared with, and how many units of a figure make a tenth of a watt. For 40,000 kWh a
 // year a figure is Q * 40,000 / 40,000, so it is Q, and its unit is a tenth of a watt.
@@ -22,84 +24,88 @@ pub struct Scale {
     pub unit: u64,
 }
 
-fn main() {
+fn main(rt: HostRuntime) -> io::Result<()> {
     let mut file = [0u8; file::LENGTH];
-    file::make(&mut file);
-    trade::compare_values(&file);
-    households::compare_factors();
-    households::compare_powers(&file);
-    trade::compare_scaled(&file);
+    file::make(&rt, &mut file)?;
+    trade::compare_values(&rt, &file)?;
+    households::compare_factors(&rt)?;
+    households::compare_powers(&rt, &file)?;
+    trade::compare_scaled(&rt, &file)
 }
 
 // How many of a table's powers agree. The values P are those that the file has for the same rows.
 pub fn compare(
+    rt: &HostRuntime,
     file: &[u8; file::LENGTH],
     scale: Scale,
     values: &[[u16; 8]; 20],
     printed: &[[u16; 8]; 20],
-) -> u32
+) -> io::Result<u32>
     requires { (1 ≤ scale.unit) × (scale.unit ≤ 1000) }
 {
     let mut agree: u32 = 0;
     let mut i: usize = 0;
     while i < 20 {
-        agree += compare_row(file, scale, i, values, printed);
+        agree += compare_row(rt, file, scale, i, values, printed)?;
         i += 1;
     }
-    agree
+    Ok(agree)
 }
 
 fn compare_row(
+    rt: &HostRuntime,
     file: &[u8; file::LENGTH],
     scale: Scale,
     i: usize,
     values: &[[u16; 8]; 20],
     printed: &[[u16; 8]; 20],
-) -> u32
+) -> io::Result<u32>
     requires { (1 ≤ scale.unit) × (scale.unit ≤ 1000) × (i < 20) }
-    ensures { result ≤ 8 }
+    ensures { IfOk result (λ n. n ≤ 8) }
 {
     let mut figures = [0u32; 96];
     expand_row(file, scale, i, &mut figures);
     let mut agree: u32 = 0;
     let mut j: usize = 0;
     while j < 8 {
-        agree += compare_cell(i, j, values, &figures, scale.unit, printed);
+        agree += compare_cell(rt, i, j, values, &figures, scale.unit, printed)?;
         j += 1;
     }
-    agree
+    Ok(agree)
 }
 
 // 1 where the power of row i and column j agrees with the printed one. Else 0, after a line with the day, the time, P and
 // both; without a line where none is printed.
 fn compare_cell(
+    rt: &HostRuntime,
     i: usize,
     j: usize,
     values: &[[u16; 8]; 20],
     figures: &[u32; 96],
     unit: u64,
     printed: &[[u16; 8]; 20],
-) -> u32
+) -> io::Result<u32>
     requires { (i < 20) × (j < 8) × (1 ≤ unit) × (unit ≤ 1000) }
-    ensures { result ≤ 1 }
+    ensures { IfOk result (λ n. n ≤ 1) }
 {
     let theirs = rows::cell(printed, i, j);
     if theirs == 0 {
-        return 0;
+        return Ok(0);
     }
     let position = rows::position(j);
     let ours = power(figures[position], unit);
     if ours == theirs as u64 {
-        return 1;
+        return Ok(1);
     }
     lines::write_power(
+        rt,
         rows::day(i),
         position,
         rows::cell(values, i, j),
         ours,
         theirs,
-    );
-    0
+    )?;
+    Ok(0)
 }
 
 // The power of a figure in tenths of a watt, rounded half up.

@@ -1,5 +1,6 @@
 // Trade in general, group G0: Abb. 4, 7 and 8.
 use crate::{Scale, file, lines};
+use std::io;
 
 // Abb. 4: the values P of the rows in tenths of a watt. Abb. 7 prints the same, without the regional rows.
 pub const VALUES: [[u16; 8]; 20] = [
@@ -50,23 +51,23 @@ const SCALED: [[u16; 8]; 20] = [
     [3241, 3175, 3095, 0, 2582, 2539, 2506, 2511],
 ];
 
-pub fn compare_values(file: &[u8; file::LENGTH]) {
+pub fn compare_values(rt: &HostRuntime, file: &[u8; file::LENGTH]) -> io::Result<()> {
     let scale = Scale {
         group: 1,
         yearly: 40_000,
         unit: 1,
     };
-    let agree = crate::compare(file, scale, &VALUES, &VALUES);
-    lines::write_tally(b"Abb. 4 and 7: ", agree, 160);
+    let agree = crate::compare(rt, file, scale, &VALUES, &VALUES)?;
+    lines::write_tally(rt, "Abb. 4 and 7: ", agree, 160)
 }
 
 // For 40,000 times 4,711 kWh a figure is 4,711 P, and the power of 4,711 kWh is 4,711 P / 1,000.
-pub fn compare_scaled(file: &[u8; file::LENGTH]) {
+pub fn compare_scaled(rt: &HostRuntime, file: &[u8; file::LENGTH]) -> io::Result<()> {
     let scale = Scale {
         group: 1,
         yearly: 188_440_000,
         unit: 1000,
     };
-    let agree = crate::compare(file, scale, &VALUES, &SCALED);
-    lines::write_tally(b"Abb. 8: ", agree, 158);
+    let agree = crate::compare(rt, file, scale, &VALUES, &SCALED)?;
+    lines::write_tally(rt, "Abb. 8: ", agree, 158)
 }
