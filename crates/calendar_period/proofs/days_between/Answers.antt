@@ -1,4 +1,4 @@
--- `calendar_period::days_between` meets its contract: each answer by the tests that led there. Assumes nothing.
+-- `calendar_period::days_between` meets its contract: each answer by the tests that led there.
 use mathlib.Core.Path.{◌≡◌}
 use Prim.Native.Nat.{ℕ, ◌+◌, ◌-◌, ◌≤◌, ◌<◌}
 use native.Mathlib.Omega.{arith}
@@ -14,11 +14,8 @@ use Rattle.calendar_period.specs.declared.PeriodDays.{PeriodDays}
 use Rattle.calendar_period.specs.Period.{days_of, period_question}
 use Rattle.calendar_period.specs.Inside.{calendar_day, period_days}
 use Rattle.calendar_period.proofs.Period.{answers-days, answers-refused}
-use borrow.Author.Rules.{rules}
-use Rattle.calendar_period.proofs.days_between.Statement.{statement}
-use Rattle.calendar_period.proofs.days_between.Tie as tie
+use Rattle.calendar_period.proofs.days_between.Goals as goal
 
--- question 8, by the two day numbers
 module _ (first last : Date) {from to : ℕ} (f : from ≡ day_number first) (t : to ≡ day_number last) where
   turned : to < from → period_question first last ≡ Refused BadPeriod
   unfolding period_question
@@ -36,47 +33,22 @@ module _ (first last : Date) {from to : ℕ} (f : from ≡ day_number first) (t 
   unfolding days_of
   counted e = rw (← f, ← t, e)
 
-day-number-requires : tie.Need-day-number-requires
-day-number-requires c κs = search rules
+pub returns-then-to-from : goal.returns-then-to-from
+returns-then-to-from c =
+    let called = c in
+    answers-refused _ (turned _ _ called.day_number-from.ensures called.day_number-to.ensures c.if-to-from.true)
 
-day-number-requires-2 : tie.Need-day-number-requires-2
-day-number-requires-2 c κs = search rules
+pub overflow_add-days : goal.overflow_add-days
+overflow_add-days c = omega (arith, number_small c.args.last c.requires.1, c.day_number-to.ensures)
 
-returns : tie.Need-returns
+pub returns-then-days-gt1461 : goal.returns-then-days-gt1461
+returns-then-days-gt1461 c =
+    let called = c in
+    answers-refused _ (too_long _ _ called.day_number-from.ensures called.day_number-to.ensures c.if-to-from.false c.if-days-gt1461.true)
+
+pub returns : goal.returns
 returns c =
-    let called = c.before in
-    answers-refused _ (turned _ _ called.before.day-number.ensures called.day-number2.ensures c.if1.true)
-
-add-days : tie.Need-overflow-add-days
-add-days c = omega (arith, number_small c.before.before.before.args.last c.before.before.before.requires.1, c.before.day-number2.ensures)
-
-sub-days : tie.Need-overflow-sub-days
-sub-days c = search rules
-
-returns-2 : tie.Need-returns-2
-returns-2 c =
-    let called = c.before.before in
-    answers-refused _ (too_long _ _ called.before.day-number.ensures called.day-number2.ensures c.before.if1.false c.if2.true)
-
-calendar-day-requires : tie.Need-calendar-day-requires
-calendar-day-requires c κs = search rules
-
-returns-3 : tie.Need-returns-3
-returns-3 c =
-    let called = c.before.before.before in
-    let from = called.before.day-number.ensures in
-    let to = called.day-number2.ensures in
-    answers-days (passes _ _ from to c.before.before.if1.false c.before.if2.false) (counted _ _ from to c.calendar-day.ensures)
-
-pub days-between-spec : {M : Type 1} → statement M
-days-between-spec =
-    tie.close
-    (tie.spec
-    day-number-requires
-    day-number-requires-2
-    returns
-    add-days
-    sub-days
-    returns-2
-    calendar-day-requires
-    returns-3)
+    let called = c in
+    let from = called.day_number-from.ensures in
+    let to = called.day_number-to.ensures in
+    answers-days (passes _ _ from to c.if-to-from.false c.if-days-gt1461.false) (counted _ _ from to c.calendar_day.ensures)
