@@ -15,7 +15,7 @@ use Rattle.calendar_holidays.specs.Holidays.{listed}
 use Rattle.calendar_days.specs.declared.DayType.{DayType}
 use Rattle.calendar_days.specs.declared.DayType.TheVariants.{Weekday, Saturday, Sunday}
 use Rattle.calendar_days.specs.Days.{month_day, is_eve, day_type_when, day_type}
-use Rattle.calendar_laws.specs.DayTypes.{earlier_day_type, Eve, ListedEve, DayTypeFacts, DayTypesSettled}
+use Rattle.calendar_laws.specs.DayTypes.{earlier_day_type, Eve, ListedEve, DayTypesSettled}
 
 -- what the order asks of month and day
 eve-asked : (d : Date) → Eve d → is_eve d ≡ true
