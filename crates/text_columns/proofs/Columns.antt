@@ -1,12 +1,11 @@
 -- A field has its width. Assumes nothing.
 use mathlib.Core.Path.{◌≡◌}
-use mathlib.Core.List.{List}
 use Prim.Native.Nat.{ℕ, ◌-◌, ◌^◌, ◌≤◌, ◌<◌}
 use native.Mathlib.Omega.{arith}
 use lib.ListN.{length, length-append, length-replicate}
 use Rattle.text.specs.Text.{space, decimal}
 use Rattle.text.proofs.Text.{decimal-short}
-use Rattle.text_columns.specs.Columns.{spaces, right_aligned, left_aligned}
+use Rattle.text_columns.specs.Columns.{right_aligned}
 
 pub length-right : (width n : ℕ) → 1 ≤ width → n < 10 ^ width → length (right_aligned width n) ≡ width
 unfolding right_aligned
