@@ -1,6 +1,6 @@
 // The program (document 01, "The program"): reads a request from standard input and prints its lines. What it prints is made and
-// proved by the crate `program_response`; here is only reading and writing. A read or a write that fails is said on standard error, and
-// `main` returns it.
+// proved by the crate `program_response`; here is only reading and writing. A read or a write that fails is said on standard error;
+// `main` returns an error only where that cannot be written either.
 #![tactic(auto)]
 
 ghost use Rattle.std.specs.Prelude.{◌≡◌, ◌≤◌, length, take, IfOk};
@@ -14,13 +14,11 @@ use std::io::{Read, Write};
 fn main(rt: HostRuntime) -> io::Result<()> {
     // one byte more than an input may have, so that a longer one is told from the longest
     let mut input = [0u8; 65_537];
-    let read = read_full(&mut rt.reader(), &mut input);
-    if read.is_err() {
-        eprintln!(rt; "slp: the input could not be read to its end")?;
-    }
-    let count = read?;
     let mut page = [0u8; program_response::PAGE_LENGTH];
-    print(&rt, &input, count, &mut page)
+    match read_full(&mut rt.reader(), &mut input) {
+        Ok(count) => print(&rt, &input, count, &mut page),
+        Err(_) => eprintln!(rt; "slp: the input could not be read to its end"),
+    }
 }
 
 // Reads until `input` is full or the reader is at its end, and returns how many bytes it put at the start of `input`.
@@ -48,9 +46,8 @@ fn print(rt: &HostRuntime, input: &[u8], count: usize, page: &mut [u8]) -> io::R
     let Response::Written(written) = answer else {
         return Ok(()); // not reached: theorem `EnoughRoom`
     };
-    let wrote = io::writer(rt).write_all(&page[0..written]);
-    if wrote.is_err() {
-        eprintln!(rt; "slp: the output could not be written")?;
+    match io::writer(rt).write_all(&page[0..written]) {
+        Ok(()) => Ok(()),
+        Err(_) => eprintln!(rt; "slp: the output could not be written"),
     }
-    wrote
 }
