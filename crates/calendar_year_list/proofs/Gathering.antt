@@ -10,7 +10,7 @@ use lib.ListN.{length, get_or, drop, set, length-set}
 use lib.Seq.{drop-length, drop-cons, drop-set-lt, get_or-set_same}
 use borrow.Author.Tests.{lt-ltb, le-ltb, eq-eqb, eqb-true, eqb-false}
 use Rattle.calendar_public_holidays.specs.YearHolidays.{inserted}
-use Rattle.calendar_year_list.specs.Inside.{Gathered, in_memory, list_of, NotBefore, Ready, Added}
+use Rattle.calendar_year_list.specs.Inside.{Gathered, list_of, NotBefore, Ready, Added}
 
 -- a date in front of a list that begins with it, or with a later one
 insert-first : (date next : ℕ) (dates : List ℕ) → date ≤ next →
