@@ -1,6 +1,6 @@
 -- What holds on every day of the year: a usable polynomial's X is a whole number up to 2 × 10^12, and the implied polynomials are
 -- usable, which antt computes day by day. Assumes nothing.
-use mathlib.Core.Path.{◌≡◌, refl, sym, ◌∙◌, ap}
+use mathlib.Core.Path.{◌≡◌, refl, ◌∙◌, ap}
 use mathlib.Core.Bool.{Bool, true, false, ◌&&◌}
 use mathlib.Core.Logic.{⊎_elim}
 use Prim.Native.Nat.{ℕ, zero, suc, ◌*◌, ◌^◌, ◌≤◌}
@@ -9,7 +9,7 @@ use native.Mathlib.Omega.{arith}
 use lib.IntN.{ℤ, pos, negsuc}
 use borrow.Author.Tests.{leb-true}
 use Rattle.polynomial.specs.declared.Coefficients.{Coefficients}
-use Rattle.polynomial.specs.Polynomial.{X, implied, in_range, every_day, usable, Sound, ImpliedSound}
+use Rattle.polynomial.specs.Polynomial.{X, in_range, every_day, usable, Sound, ImpliedSound}
 use Rattle.polynomial.specs.Inside.{Day}
 
 -- a test that passes on each of the first n days

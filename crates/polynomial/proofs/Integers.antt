@@ -1,13 +1,13 @@
 -- Laws of integers that `omega`, which reads none, does not give: products with a natural number, and sizes. By cases on the sign.
 -- Assumes nothing.
-use mathlib.Core.Path.{◌≡◌, refl, sym, ◌∙◌, ap}
+use mathlib.Core.Path.{◌≡◌, refl, ◌∙◌, ap}
 use mathlib.Core.Bool.{Bool, true, false, cond}
 use Prim.Native.Nat.{ℕ, zero, suc, ◌+◌, ◌-◌, ◌*◌, ◌≤◌}
 use native.Mathlib.Nat.{zero-mul, mul_assoc, mul-le-mul}
 use native.Mathlib.Omega.{arith}
 use lib.Dec.{ltb}
 use lib.IntN.{ℤ, pos, negsuc, ◌+ℤ◌, ◌*ℤ◌, neg_ℤ, nat_abs, sub_ℕ}
-use borrow.Author.Tests.{ltb-true, ltb-false}
+use borrow.Author.Tests.{ltb-true}
 
 neg-times : (k a : ℕ) → neg_ℤ (pos k) *ℤ pos a ≡ neg_ℤ (pos (k * a))
 neg-times zero a = rw (zero-mul a)
