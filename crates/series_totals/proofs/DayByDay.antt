@@ -7,19 +7,22 @@ use Prim.Native.Nat.{ℕ, ◌+◌, ◌-◌, ◌*◌, ◌^◌, ◌≤◌, ◌<◌
 use native.Mathlib.Omega.{arith}
 use lib.ListN.{length}
 use Rattle.lists.specs.Lists.{sum}
+use Rattle.refusal.specs.declared.Verdict.TheVariants.{Pass}
 use Rattle.calendar_dates.specs.declared.Date.{Date}
-use Rattle.calendar_dates.specs.Dates.{next_day}
+use Rattle.calendar_dates.specs.Dates.{next_day, number_of}
+use Rattle.calendar_holidays.specs.Holidays.{holidays_question}
+use Rattle.calendar_holidays.specs.Inside.{Reached}
 use Rattle.calendar_days.specs.declared.DayKind.{DayKind}
 use Rattle.calendar_period.specs.declared.CalendarDay.{CalendarDay}
-use Rattle.calendar_period.specs.Inside.{calendar_day, RealDays}
+use Rattle.calendar_period.specs.Inside.{calendar_day, RealDay, RealDays}
 use Rattle.calendar_period.proofs.Period.{values-small}
 use Rattle.carry.specs.declared.Totals.{Totals}
 use Rattle.carry.specs.Carry.{figures, last_carry}
 use Rattle.day_powers.specs.DayQuarters.{Basis}
-use Rattle.series.specs.Inside.{GroupValues, InRange}
+use Rattle.series.specs.Inside.{GroupValues, InList, InRange}
 use Rattle.series.proofs.Series.{length-quarters}
 use Rattle.series.proofs.OneDay.{day_powers}
-use Rattle.series.proofs.DayByDay.{start, kept-length, powers_from, length-powers, whole-most, whole-fits, DaysLeft, all_done, day-room, day-part, day-turn}
+use Rattle.series.proofs.DayByDay.{start, kept-length, powers_from, length-powers, whole-most, whole-fits, DaysLeft, all_done, this-day, day-room, day-part, day-turn}
 use Rattle.series_totals.specs.declared.DayTotals.{DayTotals}
 use Rattle.series_totals.specs.Inside.{comes_to}
 
@@ -48,6 +51,14 @@ module _ {b : Basis} {yearly carry days : ℕ} {first : Date} {day : CalendarDay
   all-summed none = (all_done l.days_left none).totals
 
   module _ (some : 0 < left) where
+    -- what working the next day out asks
+    pub day-asked : {holidays : List ℕ} {place k : ℕ} → holidays_question holidays ≡ Pass → InRange yearly k → Reached holidays place (number_of day.date) →
+        RealDay day × (InList holidays place day.date × InRange yearly so_far.carry)
+    day-asked in_order range reached = (
+      this-day l.days_left some,
+      (record { in_order = in_order; reached = reached }, record { yearly_small = range.yearly_small; carry_small = l.days_left.todo.carry_small }),
+    )
+
     -- its figures have room in the totals
     pub count_fits : so_far.count + length (day_powers b day.date) ≤ 146_100
     count_fits = omega (arith, (day-room l.days_left some).entries, kept-length l.days_left.todo, l.few)
