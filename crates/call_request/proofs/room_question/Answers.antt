@@ -1,9 +1,6 @@
 -- `call_request::room_question` meets its contract: no days have more than 100 quarter hours each.
-use mathlib.Core.Path.{sym, ◌∙◌, ap}
-use Prim.Native.Nat.{ℕ}
+use mathlib.Core.Path.{sym}
 use native.Mathlib.Omega.{arith}
-use borrow.Author.Rules.{rules}
-use Rattle.refusal.specs.Questions.{room_question}
 use Rattle.refusal.proofs.Questions.{room-enough}
 use Rattle.calendar_period.proofs.Period.{values-small}
 use Rattle.call_request.proofs.room_question.Goals as goal
