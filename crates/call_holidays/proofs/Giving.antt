@@ -7,7 +7,6 @@ use lib.ListN.{length, take, drop, length-drop}
 use lib.Seq.{take_all}
 use Rattle.refusal.specs.declared.Refusal.{Refusal}
 use Rattle.refusal.specs.declared.Verdict.TheVariants.{Pass, Refused}
-use Rattle.refusal.specs.Questions.{◌then◌}
 use Rattle.refusal.proofs.Questions.{then-pass, refused-first}
 use Rattle.calendar_public_holidays.specs.YearHolidays.{year_holidays}
 use Rattle.calendar_year_list.specs.Inside.{Gathered, Lists}
