@@ -1,6 +1,6 @@
 -- Codes rise strictly through a file that passed question 4, so each group is found where its code stands.
 -- Assumes nothing.
-use mathlib.Core.Path.{◌≡◌, refl}
+use mathlib.Core.Path.{◌≡◌, refl, sym, ◌∙◌, ap}
 use mathlib.Core.Bool.{Bool, true, false, ◌||◌}
 use mathlib.Core.List.{List}
 use Prim.Native.Nat.{ℕ, zero, suc, ◌+◌, ◌-◌, ◌*◌, ◌≤◌, ◌<◌}
@@ -68,4 +68,6 @@ module _ (layout : Layout) (file : List ℕ) (forward : 0 < profile_length layou
       let rest : ask_each (code_question layout file) step n (at + step) ≡ Pass = then_next (code_question layout file at) _ p in
       let other : eqb (byte_at file at) (byte_at file (at + step + i * step)) ≡ false =
       ne_eqb (byte_at file at) (byte_at file (at + step + i * step)) (λ e. omega (arith, below-later n at i h rest (omega arith))) in
-      rw (there, other) (finds n (at + step) i (omega arith) rest (omega arith))
+      let found : offset_among layout file (byte_at file (at + step + i * step)) (suc n) at ≡ at + step + i * step =
+      rw other (finds n (at + step) i (omega arith) rest (omega arith)) in
+      ap (λ (k : ℕ). offset_among layout file (byte_at file k) (suc n) at) there ∙ found ∙ sym there
