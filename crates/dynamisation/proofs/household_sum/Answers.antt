@@ -1,9 +1,12 @@
 -- `dynamisation::household_sum` meets its contract: on each day every product and sum of the code fits an i64, and the
--- last sum is X. Each is a test of all days. The proof writes down the order of the code's operations.
+-- last sum is X. Each is a test of all days. The proof writes down the order of the code's operations and reads the
+-- coefficients off the code, so that a wrong one is refused where its test fails.
 use Prim.Native.Nat.{ℕ}
-use lib.IntN.{ℤ, pos, neg_ℤ, ◌+ℤ◌, ◌-ℤ◌, ◌*ℤ◌}
+use lib.IntN.{ℤ, ◌+ℤ◌, ◌-ℤ◌, ◌*ℤ◌}
 use mir.Syntax.{w64}
-use mir.Val.{to_z, of_z}
+use mir.Val.{SFits, to_z, of_z}
+use lib.Dec.{lit<, lit≤}
+use mathlib.Core.Path.{refl}
 use Rattle.dynamisation.specs.Dynamisation.{household_x, X}
 use Rattle.dynamisation.proofs.Days.{fits, same}
 use Rattle.dynamisation.proofs.household_sum.Goals as goal
@@ -25,31 +28,44 @@ term3 a t = kept (term2 a t) *ℤ to_z w64 t
 abbrev term4 : ℤ → ℕ → ℤ
 term4 a t = kept (term3 a t) *ℤ to_z w64 t
 
--- the code's coefficients
+-- what a goal is handed on day 1
+abbrev day-1 : goal.Start
+day-1 = record {
+  args = record { t = 1 };
+  well_formed = ((refl, lit< tt), tt);
+  ranges = record { t = record { fits = lit< tt } };
+  requires = (lit≤ tt, lit≤ tt);
+}
+
+-- the number z that a goal asks to fit, on day 1. Of a product with t it is the coefficient
+abbrev on-day-1 : (z : goal.Start → ℤ) → (((c : goal.Start) → SFits w64 (z c)) → ℕ) → ℤ
+on-day-1 z need = z day-1
+
 abbrev quartic : ℤ
-quartic = neg_ℤ (pos 392)
+quartic = on-day-1 _ (λ (need : goal.overflow_mul-result-3). 0)
 
 abbrev cubic : ℤ
-cubic = pos 320_000
-
-abbrev square : ℤ
-square = pos 70_200_000
-
-abbrev linear : ℤ
-linear = pos 2_100_000_000
+cubic = on-day-1 _ (λ (need : goal.overflow_mul-result-7). 0)
 
 -- the code's sums of the first two terms, the first three, and so on
 abbrev sum2 : ℕ → ℤ
 sum2 t = kept (term4 quartic t) +ℤ kept (term3 cubic t)
 
+-- a later coefficient is what its goal's sum differs by from the sum before
+abbrev square : ℤ
+square = kept (sum2 1) -ℤ on-day-1 _ (λ (need : goal.overflow_sub-result). 0)
+
 abbrev sum3 : ℕ → ℤ
 sum3 t = kept (sum2 t) -ℤ kept (term2 square t)
+
+abbrev linear : ℤ
+linear = on-day-1 _ (λ (need : goal.overflow_add-result-2). 0) -ℤ kept (sum3 1)
 
 abbrev sum4 : ℕ → ℤ
 sum4 t = kept (sum3 t) +ℤ kept (term1 linear t)
 
 abbrev constant : ℤ
-constant = pos 1_240_000_000_000
+constant = on-day-1 _ (λ (need : goal.overflow_add-result-3). 0) -ℤ kept (sum4 1)
 
 abbrev sum5 : ℕ → ℤ
 sum5 t = kept (sum4 t) +ℤ constant
