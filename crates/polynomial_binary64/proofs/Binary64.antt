@@ -1,5 +1,5 @@
--- Laws of the numbers that are allowed. Assumes nothing.
-use Rattle.std.proofs.Common.{◌≡◌, ℕ, ◌^◌, ◌≤◌, Bool, true, false, ◌&&◌, T, eqb, leb, ℤ, pos, negsuc, nat_abs, sym, refl, ap, ◌∙◌, subst, arith, le→leb, lt→ltb, leb→le, eqb-true}
+-- Laws of the numbers that are allowed.
+use Rattle.std.proofs.Common.{◌≡◌, ℕ, ◌^◌, ◌≤◌, Bool, true, false, T, eqb, leb, ℤ, pos, negsuc, nat_abs, sym, refl, ap, ◌∙◌, subst, arith, le→leb, lt→ltb, leb→le, eqb-true}
 use lib.Ieee.{Float, binary64, fits, in_float, in_signed, of_bits, of_int, to_bits}
 use lib.Ieee.Back.{positive_back, negative_back, Float-back_signed}
 use lib.Ieee.Bits.{of_bits-to_bits, is_true}

@@ -1,4 +1,4 @@
--- An allowed polynomial's numbers may be cast to i64. Assumes nothing.
+-- An allowed polynomial's numbers may be cast to i64.
 use Rattle.std.proofs.Common.{◌≡◌, T, w64, to_z, of_z}
 use lib.Ieee.{Float, binary64, in_signed}
 use lib.Ieee.Casts.{to_signed_in}

@@ -1,4 +1,4 @@
--- The bit patterns of NaNs are, the sign aside, those above infinity's. Assumes nothing.
+-- The bit patterns of NaNs are, the sign aside, those above infinity's.
 use Rattle.std.proofs.Common.{◌≡◌, ℕ, ◌%◌, ◌<◌, ◌≤◌, Bool, false, not, T, sym, ◌∙◌, subst, le-ltb, lt-ltb}
 use lib.Ieee.{binary64, nan_bits, of_bits}
 use lib.Ieee.Bits.{nan_bits_is, nan_bits_above}

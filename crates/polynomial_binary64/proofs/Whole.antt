@@ -1,4 +1,4 @@
--- The theorems of specs/Whole.antt. Assumes nothing.
+-- The theorems of specs/Whole.antt.
 use Rattle.std.proofs.Common.{zero, suc, sym, refl, arith}
 use lib.Ieee.{in_signed, of_bits, of_int, to_signed}
 use lib.Ieee as Ieee
