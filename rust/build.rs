@@ -1,4 +1,4 @@
-//! Links the proved library, which `rt staticlib exports` writes.
+//! Links the proved library, which `tools/build` makes.
 use std::path::Path;
 
 fn main() {
@@ -8,7 +8,7 @@ fn main() {
     println!("cargo:rerun-if-changed={}", archive.display());
     if !archive.is_file() {
         eprintln!(
-            "error: {} is missing: run `rt staticlib exports` in the repository's root first",
+            "error: {} is missing: run `tools/build` first",
             archive.display()
         );
         std::process::exit(1);

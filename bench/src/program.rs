@@ -60,7 +60,7 @@ pub fn measure(inputs: &Inputs) -> Result<(), String> {
     let program = path();
     if !program.is_file() {
         return Err(format!(
-            "{} is missing: run `rt check slp` in the repository's root first",
+            "{} is missing: run `tools/build` first",
             program.display()
         ));
     }

@@ -117,20 +117,27 @@ struct Repository {
     root: std::path::PathBuf,
 }
 
+/// What `rt` makes in a crate's folder.
+const BUILDS: &str = "mkdir -p out; touch out/slp out/libexports.a";
+
 impl Repository {
     fn new(name: &str) -> Repository {
         let root = folder(name);
-        for folder in ["examples", "crates", "commands"] {
-            fs::create_dir(root.join(folder)).unwrap();
+        for folder in [
+            "examples",
+            "tools",
+            "crates/slp",
+            "crates/exports",
+            "commands",
+        ] {
+            fs::create_dir_all(root.join(folder)).unwrap();
         }
         fs::write(root.join("crates.txt"), "").unwrap();
-        fs::copy(
-            repository::path("examples/set_up"),
-            root.join("examples/set_up"),
-        )
-        .unwrap();
+        for script in ["examples/set_up", "tools/build"] {
+            fs::copy(repository::path(script), root.join(script)).unwrap();
+        }
         let repository = Repository { root };
-        repository.command("rt", "mkdir -p target/bin target/staticlib; touch target/bin/slp target/staticlib/libexports.a");
+        repository.command("rt", BUILDS);
         repository.command(
             "cargo",
             "mkdir -p rust/target/release; touch rust/target/release/dusterteal",
@@ -142,7 +149,10 @@ impl Repository {
         let path = self.root.join("commands").join(name);
         fs::write(
             &path,
-            format!("#!/bin/sh\necho {name} \"$1\" >>calls\n{does}\n"),
+            format!(
+                "#!/bin/sh\necho {name} \"$1\" >>'{}/calls'\n{does}\n",
+                self.root.display()
+            ),
         )
         .unwrap();
         fs::set_permissions(&path, fs::Permissions::from_mode(0o755)).unwrap();
@@ -175,7 +185,7 @@ impl Repository {
 fn setting_up_says_how_long_it_takes_and_is_done_once() {
     let repository = Repository::new("set_up_once");
     let (calls, said) = repository.calls();
-    assert_eq!(calls, "rt check\nrt staticlib\ncargo build\n");
+    assert_eq!(calls, "rt run\nrt lib\ncargo build\n");
     assert!(
         said.contains("three to six minutes, once") && said.contains("some seconds, once"),
         "{said}"
@@ -183,25 +193,25 @@ fn setting_up_says_how_long_it_takes_and_is_done_once() {
     assert_eq!(repository.calls(), ("cargo build\n".into(), String::new()));
     repository.change_a_crate();
     let (calls, said) = repository.calls();
-    assert_eq!(calls, "rt check\nrt staticlib\ncargo build\n");
+    assert_eq!(calls, "rt run\nrt lib\ncargo build\n");
     assert!(said.contains("three to six minutes"), "{said}");
 }
 
 #[test]
 fn a_crate_that_changes_meanwhile_is_taken_for_new() {
     let repository = Repository::new("set_up_meanwhile");
-    let built =
-        "mkdir -p target/bin target/staticlib; touch target/bin/slp target/staticlib/libexports.a";
-    repository.command("rt", &format!("sleep 0.02; touch crates/changed; {built}"));
+    let changed = repository.root.join("crates/changed");
+    let changed = changed.display();
+    repository.command("rt", &format!("sleep 0.02; touch '{changed}'; {BUILDS}"));
     let (calls, _) = repository.calls();
     assert_eq!(repository.calls().0, calls);
-    assert!(calls.starts_with("rt check\n"), "{calls}");
+    assert!(calls.starts_with("rt run\n"), "{calls}");
 }
 
 #[test]
 fn a_step_that_fails_is_shown() {
     for (name, called, failing) in [
-        ("rt", "rt check slp", "set_up_rt"),
+        ("rt", "tools/build", "set_up_rt"),
         ("cargo", "cargo build --release", "set_up_cargo"),
     ] {
         let repository = Repository::new(failing);
@@ -454,7 +464,7 @@ fn december_1999(list: &str) -> String {
     let program = Command::new(repository::path("target/bin/slp"))
         .stdin(fs::File::open(repository::path(&request)).unwrap())
         .output()
-        .expect("target/bin/slp runs: `rt check slp` builds it");
+        .expect("target/bin/slp runs: `tools/build` builds it");
     assert_eq!(String::from_utf8(program.stdout).unwrap(), listing);
     assert_eq!(reference::program::text(&made.written), listing);
     listing

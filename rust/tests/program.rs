@@ -27,7 +27,7 @@ fn program() -> PathBuf {
     let program = repository::path("target/bin/slp");
     assert!(
         program.is_file(),
-        "target/bin/slp is missing: run `rt check slp` in the repository's root, which builds it"
+        "target/bin/slp is missing: run `tools/build`, which builds it"
     );
     program
 }

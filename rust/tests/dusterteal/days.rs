@@ -54,7 +54,7 @@ fn printed(request: &str) -> String {
         .stdin(fs::File::open(request).expect("the request"))
         .stderr(Stdio::inherit())
         .output()
-        .expect("target/bin/slp runs: `rt check slp` builds it");
+        .expect("target/bin/slp runs: `tools/build` builds it");
     assert!(output.status.success());
     String::from_utf8(output.stdout).expect("text")
 }
