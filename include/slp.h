@@ -1,6 +1,6 @@
 /*
  * Quarter-hour series from VDEW load profiles: the proved library's calls for C and C++.
- * Link target/staticlib/libexports.a, which `rt staticlib exports` writes, for x86-64, where size_t has 64 bits:
+ * Link target/staticlib/libexports.a, which `tools/build` makes, for x86-64, where size_t has 64 bits:
  * cc -I include main.c target/staticlib/libexports.a
  *
  * Every call takes any bytes, values and numbers, in any amount, ends, and either does its work (number 0) or is refused by the

@@ -7,7 +7,9 @@ use std::fs;
 use std::path::{Path, PathBuf};
 
 /// Folders in the root; a path that begins with one of them is cited from there.
-const FOLDERS: [&str; 6] = ["crates", "rust", "docs", "examples", "include", "bench"];
+const FOLDERS: [&str; 7] = [
+    "crates", "rust", "docs", "examples", "include", "bench", "tools",
+];
 
 /// Folders of a crate.
 const FOLDERS_OF_A_CRATE: [&str; 4] = ["src", "specs", "proofs", "must-fail"];

@@ -86,7 +86,7 @@ fn definition_and_code_ask_in_the_same_words() {
     );
     let code = comments_and_words(
         "crates/calendar_days/src/lib.rt",
-        "    ensures { λ r. ⌜ r ≡ season d ⌝ }",
+        "    ensures { result ≡ season d }",
         "//",
         &["if", "return", "Season", "d"],
     );
