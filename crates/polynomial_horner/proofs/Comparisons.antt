@@ -1,4 +1,4 @@
--- Comparisons of binary64 numbers that are whole numbers are those of the whole numbers. Assumes nothing.
+-- Comparisons of binary64 numbers that are whole numbers are those of the whole numbers.
 use mathlib.Core.Path.{◌≡◌, refl, sym, ◌∙◌, ap}
 use mathlib.Core.Logic.{◌⊎◌, inl, inr}
 use mathlib.Core.Bool.{Bool, true, false, ◌&&◌, ◌||◌, beq, true≢false, false≢true}
@@ -7,7 +7,7 @@ use native.Mathlib.Nat.{mul-pos, mul-lt-mul_of_pos_right, mul-le-mul_right, eq-o
 use native.Mathlib.Omega.{arith}
 use lib.Dec.{leb, ltb, eqb}
 use lib.IntN.{ℤ, pos, negsuc}
-use lib.Ieee.{Float, fin, up, down, below, level, eq, le}
+use lib.Ieee.{Float, nan, inf, fin, up, down, below, level, eq, le}
 use lib.Ieee.Exact.{HasValue}
 use lib.Ieee.Fits.{down_pos}
 use borrow.Author.Tests.{leb-true, leb-false, le-leb, lt-leb, lt-ltb, le-ltb, eq-eqb, ne_eqb, eqb-true}
@@ -35,6 +35,10 @@ at_most a b = go (leb a b) refl
 
 pub le-whole : (x y : Float) (a b : ℕ) → HasValue x false a 1 → HasValue y false b 1 → le x y ≡ leb a b
 unfolding le
+le-whole nan y a b p q = elim p [ ]
+le-whole (inf _) y a b p q = elim p [ ]
+le-whole (fin s m e) nan a b p q = elim q [ ]
+le-whole (fin s m e) (inf _) a b p q = elim q [ ]
 le-whole (fin true m e) (fin v n d) a b p q = absurd (true≢false p.0)
 le-whole (fin false m e) (fin true n d) a b p q = absurd (true≢false q.0)
 le-whole (fin false m e) (fin false n d) a b p q =
@@ -54,6 +58,10 @@ never a b h = go (eqb a b) (eqb a 0) refl refl
 
 pub le-negative : (x y : Float) (a b : ℕ) → HasValue x false a 1 → HasValue y true (suc b) 1 → le x y ≡ false
 unfolding le
+le-negative nan y a b p q = elim p [ ]
+le-negative (inf _) y a b p q = elim p [ ]
+le-negative (fin s m e) nan a b p q = elim q [ ]
+le-negative (fin s m e) (inf _) a b p q = elim q [ ]
 le-negative (fin true m e) (fin v n d) a b p q = absurd (true≢false p.0)
 le-negative (fin false m e) (fin false n d) a b p q = absurd (false≢true q.0)
 le-negative (fin false m e) (fin true n d) a b p q =
@@ -81,6 +89,10 @@ eq-level s t a b h = go (eqb a b) (beq s t || eqb a 0) refl h
 
 size-zero : (x none : Float) (s : Bool) (a : ℕ) → HasValue x s a 1 → HasValue none false 0 1 → eq x none ≡ true → a ≡ 0
 unfolding eq
+size-zero nan none s a p q h = elim p [ ]
+size-zero (inf _) none s a p q h = elim p [ ]
+size-zero (fin u m e) nan s a p q h = elim q [ ]
+size-zero (fin u m e) (inf _) s a p q h = elim q [ ]
 size-zero (fin u m e) (fin v n d) s a p q h =
     let same : m * up e * down d ≡ n * up d * down e = eq-level u v (m * up e * down d) (n * up d * down e) h in
     above_zero a (down e * down d) (mul-pos (down_pos e) (down_pos d))

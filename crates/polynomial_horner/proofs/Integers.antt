@@ -1,11 +1,8 @@
--- Horner's rule on whole numbers is the sum X. Assumes nothing.
-use mathlib.Core.Path.{◌≡◌, refl, sym, ◌∙◌, ap}
-use mathlib.Core.Bool.{Bool, true, false, cond}
-use Prim.Native.Nat.{ℕ, zero, suc, ◌+◌, ◌-◌, ◌*◌, ◌^◌, ◌≤◌}
-use native.Mathlib.Nat.{mul_assoc, zero-mul, pow-suc, pow-zero, one-mul}
-use native.Mathlib.Omega.{arith}
-use lib.Dec.{ltb}
-use lib.IntN.{ℤ, pos, negsuc, neg_ℤ, nat_abs, sub_ℕ, ◌+ℤ◌, ◌*ℤ◌, suc_ℤ-*ℤ, *ℤ_comm, *ℤ-zero, +ℤ_assoc, +ℤ_comm}
+-- Horner's rule on whole numbers is the sum X.
+use mathlib.Core.Path.{◌≡◌, sym, ◌∙◌, ap}
+use Prim.Native.Nat.{ℕ, zero, suc, ◌*◌, ◌^◌}
+use native.Mathlib.Nat.{pow-suc, pow-zero, one-mul}
+use lib.IntN.{ℤ, pos, ◌+ℤ◌, ◌*ℤ◌, suc_ℤ-*ℤ, *ℤ_comm, *ℤ-zero, +ℤ_assoc, +ℤ_comm}
 use Rattle.polynomial.specs.declared.Coefficients.{Coefficients}
 use Rattle.polynomial.specs.Polynomial.{X}
 use Rattle.polynomial.proofs.Integers.{times-times}

@@ -1,4 +1,4 @@
--- The evaluation by Horner's rule in binary64 numbers loses nothing: each step is exact, its whole number below 2^53. Assumes nothing.
+-- The evaluation by Horner's rule in binary64 numbers loses nothing: each step is exact, its whole number below 2^53.
 use mathlib.Core.Path.{◌≡◌, ◌∙◌, ap, subst, sym}
 use Prim.Native.Nat.{ℕ, ◌+◌, ◌*◌, ◌^◌, ◌≤◌}
 use native.Mathlib.Nat.{mul-le-mul}

@@ -1,13 +1,9 @@
--- The range test on every day. Assumes nothing.
+-- The range test on every day.
 use mathlib.Core.Path.{◌≡◌, refl, sym, ◌∙◌, ap}
-use mathlib.Core.Logic.{◌⊎◌, inl, inr}
 use mathlib.Core.Bool.{Bool, true, false, ◌&&◌, false≢true}
-use Prim.Native.Nat.{ℕ, zero, suc, ◌+◌, ◌^◌, ◌≤◌, ◌<◌}
-use native.Mathlib.Nat.{eq-or-lt_of_le}
-use native.Mathlib.Numerals.{add-one}
-use native.Mathlib.Omega.{arith}
+use Prim.Native.Nat.{ℕ, zero, suc, ◌^◌}
 use lib.Ieee.{Float, eq}
-use lib.IntN.{ℤ, pos, zero-*ℤ, +ℤ_idl, ◌+ℤ◌, ◌*ℤ◌}
+use lib.IntN.{ℤ, pos, zero-*ℤ, +ℤ_idl, ◌*ℤ◌}
 use Rattle.polynomial.specs.declared.Coefficients.{Coefficients}
 use Rattle.polynomial.specs.Polynomial.{X, limit, in_range, every_day, usable}
 use Rattle.polynomial_binary64.specs.declared.Polynomial.{Polynomial}
@@ -20,10 +16,6 @@ use Rattle.polynomial_horner.proofs.Comparisons.{is_zero}
 both : (a b : Bool) → a && b ≡ true → (a ≡ true) × (b ≡ true)
 both true b h = (refl, h)
 both false b h = absurd (false≢true h)
-
--- one day more
-pub one_more : (test : ℕ → Bool) (n : ℕ) (answer passed : Bool) → answer ≡ test (n + 1) → passed ≡ every_day test n → answer && passed ≡ every_day test (n + 1)
-one_more test n answer passed p q = rw (p, q, add-one n) refl
 
 -- ---- a polynomial that is constant
 -- coefficients that equal 0 are the whole number 0

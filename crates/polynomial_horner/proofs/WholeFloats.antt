@@ -1,5 +1,5 @@
 -- Binary64 numbers whose values are whole numbers: a coefficient that is allowed has the value of its whole number, and products and
--- sums are those of the whole numbers, in the one form of `of_int`. Assumes nothing.
+-- sums are those of the whole numbers, in the one form of `of_int`.
 use mathlib.Core.Path.{◌≡◌, refl, sym, ◌∙◌, ap, subst}
 use mathlib.Core.Bool.{Bool, true, false, not, ◌&&◌, cond, true≢false, false≢true}
 use Prim.Native.Nat.{ℕ, zero, suc, ◌+◌, ◌-◌, ◌*◌, ◌/◌, ◌%◌, ◌^◌, ◌≤◌, ◌<◌}
@@ -8,7 +8,7 @@ use native.Mathlib.Omega.{arith}
 use lib.Dec.{T, leb, ltb, eqb, leb→le, le→leb, lt→ltb, eqb→eq}
 use lib.IntN.{ℤ, pos, negsuc, neg_ℤ, nat_abs, sub_ℕ, ◌+ℤ◌, ◌*ℤ◌}
 use lib.Ieee as Ieee
-use lib.Ieee.{Float, fin, binary64, up, down, round, sum, add, mul, of_int, in_signed, in_float}
+use lib.Ieee.{Float, nan, inf, fin, binary64, up, down, round, sum, add, mul, of_int, in_signed, in_float}
 use lib.Ieee.Back.{round_whole, positive_back, negative_back}
 use lib.Ieee.Casts.{to_signed_cut}
 use lib.Ieee.Exact.{HasValue}
@@ -52,6 +52,10 @@ times m n a b d e p q =
 
 product-of : (x y : Float) (s : Bool) (a t : ℕ) → HasValue x s a 1 → HasValue y false t 1 → mul binary64 x y ≡ round binary64 s (a * t) 1
 unfolding mul
+product-of nan y s a t p q = elim p [ ]
+product-of (inf _) y s a t p q = elim p [ ]
+product-of (fin s m e) nan z a t p q = elim q [ ]
+product-of (fin s m e) (inf _) z a t p q = elim q [ ]
 product-of (fin true m e) (fin false n d) true a t p q =
     round_same binary64 true (m * up e * (n * up d)) (down e * down d) (a * t) 1 (mul-pos (down_pos e) (down_pos d)) (omega arith)
     (times (m * up e) (n * up d) a t (down e) (down d) p.1 q.1)
@@ -111,6 +115,10 @@ right-part n b d e p = let p1 : n ≡ b * e = omega arith in rw p1 (mul_assoc b 
 
 sum_of : (x y : Float) (s t : Bool) (a b : ℕ) → HasValue x s a 1 → HasValue y t b 1 → add binary64 x y ≡ sum binary64 s a t b 1
 unfolding add
+sum_of nan y s t a b p q = elim p [ ]
+sum_of (inf _) y s t a b p q = elim p [ ]
+sum_of (fin u m e) nan s t a b p q = elim q [ ]
+sum_of (fin u m e) (inf _) s t a b p q = elim q [ ]
 sum_of (fin u m e) (fin v n d) s t a b p q =
     ap (λ (w : Bool). sum binary64 w (m * up e * down d) v (n * up d * down e) (down e * down d)) p.0
     ∙ ap (λ (w : Bool). sum binary64 s (m * up e * down d) w (n * up d * down e) (down e * down d)) q.0
@@ -167,6 +175,8 @@ pub record AllowedWhole (most : ℕ) (c : Float) : Type 0 where
 
 pub coefficient-whole : (c : Float) → T (in_signed binary64 63 c) → IsWhole c (whole c)
 unfolding in_signed Ieee.whole
+coefficient-whole nan t = elim t [ ]
+coefficient-whole (inf _) t = elim t [ ]
 coefficient-whole (fin s m e) t =
     let k = m * up e / down e in
     let exact = eqb (m * up e % down e) 0 in
