@@ -41,13 +41,7 @@ fn compare_span(rt: &HostRuntime, listed: Listed) -> io::Result<()> {
 }
 
 // 1 where the day's figures agree. Else 0, after a line with the date, the enquiry's figures and the second calendar's.
-fn compare(
-    rt: &HostRuntime,
-    year: u32,
-    t: u32,
-    weekday: u32,
-    listed: Listed,
-) -> io::Result<u32>
+fn compare(rt: &HostRuntime, year: u32, t: u32, weekday: u32, listed: Listed) -> io::Result<u32>
     requires { (year ≤ 2099) × ((1 ≤ t) × (t ≤ 366)) }
     ensures { IfOk result (λ n. n ≤ 1) }
 {
