@@ -1,7 +1,7 @@
 -- What each way through the call comes to, over a request. Assumes nothing.
 use mathlib.Core.Path.{◌≡◌, ◌∙◌, ap}
 use mathlib.Core.List.{List}
-use Prim.Native.Nat.{ℕ, ◌+◌, ◌*◌, ◌≤◌, ◌<◌}
+use Prim.Native.Nat.{ℕ, ◌≤◌, ◌<◌}
 use native.Mathlib.Omega.{arith}
 use native.Mathlib.Nat.{zero-add}
 use lib.ListN.{length}
@@ -18,12 +18,11 @@ use Rattle.day_powers.specs.DayQuarters.{basis}
 use Rattle.call_request.specs.Request.{Request, days_in, request_check}
 use Rattle.call_expansion.specs.declared.Expansion.{Expansion}
 use Rattle.call_expansion.specs.Answered.{reported}
-use Rattle.call_expand.specs.Expanding.{totals}
 use Rattle.call_rows.specs.Rows.{rows_of}
 use Rattle.call_rows.proofs.Rows.{totals-by-quarters}
 use Rattle.text.specs.Inside.{Put}
 use Rattle.text.proofs.Puts.{put-put}
-use Rattle.text_page_lines.specs.PageLines.{day_type_width, line_length, day_page_line, last_page_line}
+use Rattle.text_page_lines.specs.PageLines.{day_page_line, last_page_line}
 use Rattle.text_page_lines.proofs.PageLines.{last-line-length}
 use Rattle.text_listing.specs.declared.Form.TheVariants.{Page}
 use Rattle.text_listing.specs.declared.Lines.{Lines}
