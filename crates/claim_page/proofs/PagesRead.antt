@@ -10,36 +10,33 @@ use native.Mathlib.Nat.{add-zero, zero-add, eq-zero-or-pos}
 use lib.ListN.{length, take, drop, replicate, length-append}
 use borrow.Author.Tests.{eq-eqb}
 use Rattle.lists.specs.Lists.{sum, Each, each_from}
-use Rattle.refusal.specs.declared.Refusal.{Refusal}
 use Rattle.refusal.specs.declared.Verdict.{Verdict}
 use Rattle.refusal.specs.declared.Verdict.TheVariants.{Pass, Refused}
-use Rattle.refusal.specs.Questions.{refusal_number, ◌then◌}
+use Rattle.refusal.specs.Questions.{refusal_number}
 use Rattle.refusal.proofs.Questions.{then-pass, then-first, refused-first, number-above-0}
-use Rattle.calendar_dates.specs.Dates.{is_date, date_of, number_of}
+use Rattle.calendar_dates.specs.Dates.{is_date, date_of}
 use Rattle.calendar_days.specs.Days.{day_kind}
 use Rattle.calendar_laws.proofs.Periods.{period-days}
-use Rattle.carry.specs.declared.Totals.{Totals}
 use Rattle.series_rows.specs.Rows.{Row, row_of}
 use Rattle.call_request.specs.Request.{Request, days_in, series, request_check}
 use Rattle.call_request.proofs.Request.{sound}
 use Rattle.call_request_laws.specs.Fits.{LongestSeries, LargestTotal}
 use Rattle.call_request_laws.proofs.Fits.{longest-series, largest-total}
-use Rattle.call_expansion.specs.declared.Expansion.{Expansion}
 use Rattle.call_expansion.specs.declared.Expansion.TheVariants.{Expanded}
 use Rattle.call_expansion.specs.declared.ExpansionReport.{ExpansionReport}
 use Rattle.call_expansion.specs.Answered.{answered, reported}
-use Rattle.call_expand.specs.Expanding.{totals, expansion, lent}
-use Rattle.call_rows.specs.Rows.{rows_of, date_of_day, on_day, DayAsExpanded, AsExpanded, RowsAsExpanded}
+use Rattle.call_expand.specs.Expanding.{totals}
+use Rattle.call_rows.specs.Rows.{rows_of, date_of_day, on_day, AsExpanded, RowsAsExpanded}
 use Rattle.call_rows.proofs.Rows.{rows-as-expanded}
-use Rattle.text.specs.Text.{decimal, hyphen, date_text}
+use Rattle.text.specs.Text.{hyphen, date_text}
 use Rattle.text.proofs.Text.{decimal-short}
 use Rattle.text_fields.specs.Fields.{day_type_text, total_word}
 use Rattle.text_columns.specs.Columns.{left_aligned}
-use Rattle.text_page_lines.specs.PageLines.{day_page_line, last_page_line}
+use Rattle.text_page_lines.specs.PageLines.{last_page_line}
 use Rattle.text_page_lines.proofs.PageLines.{last-line-length}
-use Rattle.call_page.specs.Page.{page_text, bytes_needed, page_question, page_check, page_answer, page_after, Prints, Reports}
+use Rattle.call_page.specs.Page.{page_text, page_check, page_answer, page_after, Reports}
 use Rattle.call_page.proofs.Page.{page-enough, page-short}
-use Rattle.claim_page.specs.ReadBack.{Read, number, none, read_date, line_on, Parted, day_type_on, date_on, count_on, watt_hours_on, plus, added}
+use Rattle.claim_page.specs.ReadBack.{Read, number, none, read_date, line_on, Parted, date_on, count_on, watt_hours_on, added}
 use Rattle.claim_page.specs.PagesRead.{DayRead, PageRead, WidthsEnough, AskedAsExpanding, PagesRead}
 use Rattle.claim_page.proofs.ReadBack.{read-date}
 use Rattle.claim_page.proofs.Lines.{LineRead, line_read, Narrow, narrow_at, all-narrow, lines, lines-length, line_at, last-at}

@@ -1,5 +1,5 @@
 -- Document 02, (e): lines of a page and question 19, worked out: those of document 01's listing, every byte.
-use Rattle.std.specs.Prelude.{◌≡◌, List, [], ◌∷◌, ℕ}
+use Rattle.std.specs.Prelude.{◌≡◌, [], ◌∷◌, ℕ}
 use Rattle.refusal.specs.declared.Refusal.TheVariants.{ShortPage}
 use Rattle.refusal.specs.declared.Verdict.TheVariants.{Pass, Refused}
 use Rattle.calendar_dates.specs.declared.Date.{Date}
