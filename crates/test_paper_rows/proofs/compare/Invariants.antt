@@ -1,6 +1,5 @@
--- What each turn of the loop keeps, and what falls.
+-- At most eight agree for each row that is compared.
 use Prim.Native.Nat.{◌-◌, ◌*◌, ◌≤◌}
-use borrow.Author.Rules.{rules}
 use Rattle.test_paper_rows.proofs.compare.Given as goal
 
 abbrev pub invariant-loop-i : goal.invariant-loop-i

@@ -1,6 +1,5 @@
--- What each turn of the loop keeps, and what falls.
+-- At most one agrees for each cell that is compared.
 use Prim.Native.Nat.{◌-◌, ◌≤◌}
-use borrow.Author.Rules.{rules}
 use Rattle.test_paper_rows.proofs.compare_row.Given as goal
 
 abbrev pub invariant-loop-j : goal.invariant-loop-j

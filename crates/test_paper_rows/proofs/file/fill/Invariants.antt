@@ -1,6 +1,5 @@
 -- What each turn of the loop keeps, and what falls.
 use Prim.Native.Nat.{◌-◌, ◌≤◌}
-use borrow.Author.Rules.{rules}
 use Rattle.test_paper_rows.proofs.file.fill.Given as goal
 
 abbrev pub invariant-loop-cell : goal.invariant-loop-cell

@@ -1,6 +1,5 @@
--- What each turn of the loop keeps, and what falls.
+-- At most one agrees for each row that is compared.
 use Prim.Native.Nat.{◌-◌, ◌≤◌}
-use borrow.Author.Rules.{rules}
 use Rattle.test_paper_rows.proofs.households.agreeing_factors.Given as goal
 
 abbrev pub invariant-loop-i : goal.invariant-loop-i
