@@ -71,15 +71,15 @@ fn write_answer(rt: &HostRuntime, date: u32, holidays: &[u32]) -> io::Result<()>
 fn write_day(rt: &HostRuntime, day: Day) -> io::Result<()> {
     lines::write_next(rt, day.weekday as u64)?;
     lines::write_next(rt, day.t as u64)?;
-    print!(rt; " {}", season_letter(day.season))?;
+    print!(rt; " {}", season_letter(day.season) as char)?;
     lines::write_number(rt, call_day::day_type_digit(day.day_type) as u64)?;
     lines::write_next(rt, day.value_count as u64)
 }
 
-fn season_letter(s: Season) -> char {
+fn season_letter(s: Season) -> u8 {
     match s {
-        Season::Winter => 'W',
-        Season::Summer => 'S',
-        Season::Transition => 'T',
+        Season::Winter => b'W',
+        Season::Summer => b'S',
+        Season::Transition => b'T',
     }
 }

@@ -37,7 +37,9 @@ fn compare_span(rt: &HostRuntime, listed: Listed) -> io::Result<()> {
             t = 1;
         }
     }
-    print!(rt; "{agree} of {days}")
+    write_number(rt, agree)?;
+    print!(rt; " of ")?;
+    write_number(rt, days)
 }
 
 // 1 where the day's figures agree. Else 0, after a line with the date, the enquiry's figures and the second calendar's.
@@ -51,7 +53,7 @@ fn compare(rt: &HostRuntime, year: u32, t: u32, weekday: u32, listed: Listed) ->
     if same(answered, expected) {
         return Ok(1);
     }
-    print!(rt; "{date}")?;
+    write_number(rt, date)?;
     write_figures(rt, answered)?;
     print!(rt; ", not")?;
     write_figures(rt, expected)?;
@@ -105,6 +107,21 @@ fn same(a: Figures, b: Figures) -> bool {
 
 // Each figure after a space.
 fn write_figures(rt: &HostRuntime, f: Figures) -> io::Result<()> {
-    print!(rt; " {} {} {}", f.number, f.place, f.weekday)?;
-    print!(rt; " {} {} {} {}", f.t, f.season, f.day_type, f.values)
+    write_next(rt, f.number)?;
+    print!(rt; " {}", f.place)?;
+    write_next(rt, f.weekday)?;
+    write_next(rt, f.t)?;
+    write_next(rt, f.season)?;
+    write_next(rt, f.day_type)?;
+    write_next(rt, f.values)
+}
+
+// A space and a number.
+fn write_next(rt: &HostRuntime, n: u32) -> io::Result<()> {
+    print!(rt; " ")?;
+    write_number(rt, n)
+}
+
+fn write_number(rt: &HostRuntime, n: u32) -> io::Result<()> {
+    print!(rt; "{n}")
 }

@@ -65,11 +65,11 @@ pub fn compare_powers(rt: &HostRuntime, file: &[u8; file::LENGTH]) -> io::Result
         unit: 1,
     };
     let agree = crate::compare(rt, file, scale, &VALUES, &POWERS)?;
-    lines::write_tally(rt, "Abb. 6: ", agree, 160)
+    lines::write_tally(rt, b"Abb. 6: ", agree, 160)
 }
 
 pub fn compare_factors(rt: &HostRuntime) -> io::Result<()> {
-    lines::write_tally(rt, "Abb. 5, factors: ", agreeing_factors(rt)?, 18)
+    lines::write_tally(rt, b"Abb. 5, factors: ", agreeing_factors(rt)?, 18)
 }
 
 fn agreeing_factors(rt: &HostRuntime) -> io::Result<u32> {

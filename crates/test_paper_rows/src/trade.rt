@@ -58,7 +58,7 @@ pub fn compare_values(rt: &HostRuntime, file: &[u8; file::LENGTH]) -> io::Result
         unit: 1,
     };
     let agree = crate::compare(rt, file, scale, &VALUES, &VALUES)?;
-    lines::write_tally(rt, "Abb. 4 and 7: ", agree, 160)
+    lines::write_tally(rt, b"Abb. 4 and 7: ", agree, 160)
 }
 
 // For 40,000 times 4,711 kWh a figure is 4,711 P, and the power of 4,711 kWh is 4,711 P / 1,000.
@@ -69,5 +69,5 @@ pub fn compare_scaled(rt: &HostRuntime, file: &[u8; file::LENGTH]) -> io::Result
         unit: 1000,
     };
     let agree = crate::compare(rt, file, scale, &VALUES, &SCALED)?;
-    lines::write_tally(rt, "Abb. 8: ", agree, 158)
+    lines::write_tally(rt, b"Abb. 8: ", agree, 158)
 }
