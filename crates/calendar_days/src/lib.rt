@@ -91,6 +91,7 @@ fn is_eve(d: Date) -> bool
 }
 
 // The day type, of a date whose weekday is known, and of which it is known whether it is a listed holiday.
+#[tactic(auto, unfolding(crate::specs::Days::day_type_when))]
 pub fn day_type_when(d: Date, weekday: u32, holiday: bool) -> DayType
     requires { weekday ≡ weekday_of d }
     ensures { result ≡ day_type_when d holiday }

@@ -9,7 +9,7 @@ use lib.Dec.{T, leb, leb→le}
 use lib.ListN.{length, get_or, drop, get_or-map}
 use lib.Seq.{drop-length, drop-cons}
 use mir.Facts.{and_yes}
-use Rattle.calendar_dates.specs.Dates.{leap_days, month_length, days_of_months, day_of_year, days_of_years, day_number, weekday_of, next_day, days_later}
+use Rattle.calendar_dates.specs.Dates.{number_of, leap_days, month_length, days_of_months, day_of_year, days_of_years, day_number, weekday_of, next_day, days_later}
 use Rattle.calendar_movable_days.specs.Counted.{march_day, days_until}
 use Rattle.calendar_movable_days.specs.Easter.{golden_number, century, solar_correction, lunar_correction, cycle_epact, epact, paschal_full_moon, easter_day}
 use Rattle.calendar_movable_days.specs.Inside.{InSpan, UpToJune}
@@ -68,6 +68,11 @@ module _ {year choice : ℕ} (k : ℕ) (h : k < 17) where
         list = a.list ∙ rw (gs.list, e, w) (sym (ap gathered split));
         ready = record { whole = ready.whole; room = ready.room; inside = ready.inside; not_before = subst (λ d. NotBefore d (list_of r)) e ready.not_before };
       }
+
+  -- where it is a day of March to June
+  pub march-day-may-come : {g : Gathered} {day : ℕ} → Gathers year choice (suc k) g → UpToJune day → number_of (march_day year day) ≡ (day_at year choice k).date →
+      InSpan year × (UpToJune day × Ready 1 (number_of (march_day year day)) g)
+  march-day-may-come gs u d = (gs.span, (u, may-come gs d))
 
 -- Days counted from Easter are days of March to June.
 module _ {year easter : ℕ} (s : InSpan year) (e : easter ≡ easter_day year) where

@@ -41,6 +41,9 @@ pub record Left (yearly : ℕ) (whole : List ℕ) (carry : ℕ) (entry : List �
   pub room : length whole ≤ length entry
   pub fits : sum (figures yearly whole carry) < 2 ^ 64
 
+pub added-length : {yearly : ℕ} {first : List ℕ} {so_far r : Totals} {out after : List ℕ} → Added yearly first so_far out r after → length after ≡ length out
+added-length {yearly} {first} {so_far} {out = out} did = rw did.stored (length-sets out so_far.count (figures yearly first so_far.carry))
+
 -- totals are their three parts
 same-totals : {n t k n' t' k' : ℕ} → n ≡ n' → t ≡ t' → k ≡ k' → ◌≡◌ {A = Totals} (record { count = n; total = t; carry = k }) (record { count = n'; total = t'; carry = k' })
 same-totals n t k = rw (n, t, k)

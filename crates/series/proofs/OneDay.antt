@@ -80,6 +80,12 @@ module _ (b : Basis) (sound : GroupValues b.values) (d : Date) where
     powers-asked h range = record { small = rw e (day-powers-small h); yearly_small = range.yearly_small; in_range = range.carry_small }
 
     module _ {yearly : ℕ} {before : Totals} {out : List ℕ} (room : Room yearly (day_powers b d) before out) where
+      pub carry-asked : is_date d ≡ true → InRange yearly before.carry → SmallPowers all yearly before.carry × (before.count + value_count_under c ≤ length out)
+      carry-asked h range =
+          let entries = room.entries in
+          let n = counted in
+          (powers-asked h range, omega arith)
+
       pub total-fits : {total : ℕ} → total ≡ sum (figures yearly (positions c all) before.carry) → before.total + total < 2 ^ 64
       total-fits h = let t = room.total in omega (arith, rw changed at h)
 
