@@ -187,14 +187,14 @@ fn setting_up_says_how_long_it_takes_and_is_done_once() {
     let (calls, said) = repository.calls();
     assert_eq!(calls, "rt run\nrt lib\ncargo build\n");
     assert!(
-        said.contains("three to six minutes, once") && said.contains("some seconds, once"),
+        said.contains("about ten minutes, once") && said.contains("some seconds, once"),
         "{said}"
     );
     assert_eq!(repository.calls(), ("cargo build\n".into(), String::new()));
     repository.change_a_crate();
     let (calls, said) = repository.calls();
     assert_eq!(calls, "rt run\nrt lib\ncargo build\n");
-    assert!(said.contains("three to six minutes"), "{said}");
+    assert!(said.contains("about ten minutes"), "{said}");
 }
 
 #[test]
