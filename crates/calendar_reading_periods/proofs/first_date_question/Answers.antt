@@ -1,5 +1,7 @@
 -- `calendar_reading_periods::first_date_question` meets its contract: each `return` rewrites with the tests that led there.
 use mathlib.Core.Path.{sym, ◌∙◌}
+use native.Mathlib.Omega.{arith}
+use lib.ListN.{get_or}
 use borrow.Author.Tests.{le-leb, lt-leb}
 use Rattle.refusal.proofs.Questions.{ask-yes, ask-no}
 use Rattle.calendar_dates.proofs.Dates.{checked}
@@ -34,4 +36,4 @@ unfolding first_date_question
 returns c =
     sym
     (ask-yes _
-    (rw (checked _ c.date_of.ensures c.is_date.ensures c.if-not-is_date.false, sym c.in_sequence.ensures ∙ c.if-not-in_sequence.false, le-leb _ _ c.if-start-first.false, le-leb _ _ c.if-last-start.false)))
+    (rw (checked _ c.date_of.ensures c.is_date.ensures c.if-not-is_date.false, sym c.in_sequence.ensures ∙ c.if-not-in_sequence.false, le-leb _ _ c.if-start-first.false, le-leb (get_or c.args.starts.now c.args.index 0) c.args.last (omega arith))))
