@@ -11,7 +11,6 @@ use Rattle.calendar_dates.proofs.NextDay.{same_month, next_month, next_year, nex
 use Rattle.calendar_period.specs.declared.CalendarDay.{CalendarDay}
 use Rattle.calendar_period.specs.Inside.{calendar_day}
 use Rattle.calendar_period.proofs.day_after.Goals as goal
-use Rattle.calendar_period.proofs.day_after.Goals.{then-date-eq1+else-date-eq1-2, else-date-eq1}
 
 new-year : (d : Date) → d.month ≡ 1 → d.day ≡ 1 → 1 ≡ day_of_year d
 unfolding day_of_year
@@ -64,8 +63,4 @@ returns c =
     let e = c.requires.day_value in
     made day p e n
     (t-next day p e n
-    (λ m d.
-    elim c.if-date-eq1.branch [
-      | then-date-eq1+else-date-eq1-2 w ↦ w.if-date-eq1-2.false d
-      | else-date-eq1 w ↦ w.if-date-eq1.false m
-    ]))
+    (λ m d. grind (arith, c.if-date-eq1.branch)))

@@ -51,4 +51,4 @@ returns c =
     let called = c in
     let from = called.day_number-from.ensures in
     let to = called.day_number-to.ensures in
-    answers-days (passes _ _ from to c.if-to-from.false c.if-days-gt1461.false) (counted _ _ from to c.calendar_day.ensures)
+    answers-days (passes _ _ from to c.if-to-from.false (omega arith)) (counted _ _ from to c.calendar_day.ensures)
