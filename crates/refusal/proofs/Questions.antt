@@ -5,48 +5,28 @@ use mathlib.Core.Bool.{Bool, true, false, ◌&&◌}
 use Prim.Native.Nat.{ℕ, zero, suc, ◌+◌, ◌-◌, ◌*◌, ◌≤◌, ◌<◌}
 use native.Mathlib.Omega.{arith}
 use native.Mathlib.Nat.{suc-mul}
-use denote.Enum.Declared.{tag_of, declared}
 use lib.Dec.{eqb}
 use borrow.Author.Tests.{leb-true, le-leb, lt-leb}
-use Rattle.refusal.specs.declared.Verdict.{Verdict}
-use Rattle.refusal.specs.declared.Verdict.TheVariants.{Pass, Refused}
 use Rattle.refusal.specs.declared.Refusal.{Refusal}
 use Rattle.refusal.specs.declared.Refusal.TheVariants.{NoMark, WrongVersion, WrongLength, BadCode, BadValue, NoGroup, BadDate}
 use Rattle.refusal.specs.declared.Refusal.TheVariants.{BadPeriod, BadHoliday, BadUse, BadCarry, ShortOutput, BadInput}
 use Rattle.refusal.specs.declared.Refusal.TheVariants.{BadYear, BadChoice, ShortList, WrongReadings, BadFirstDate, ShortPage}
-use Rattle.refusal.specs.Questions.{refusal_number, reported, ask, ◌then◌, ask_each, room_question, on_pass}
-use Rattle.refusal.specs.contracts.Verdict.{enum}
-
--- what the `else` of `let Verdict::Pass = v else { .. }` knows of v, and what follows it knows
-abbrev pub IsRefused : Verdict → Type 0
-IsRefused v = tag_of (declared enum) v ≡ 1
-
-abbrev pub IsPass : Verdict → Type 0
-IsPass v = tag_of (declared enum) v ≡ 0
-
--- no verdict is both
-pub passed-not-refused : {A : Type 0} → IsRefused Pass → A
-passed-not-refused h = let z : ◌≡◌ {A = ℕ} 0 1 = h in absurd (omega arith)
-
-pub passed : (v : Verdict) → IsPass v → v ≡ Pass
-passed Pass h = refl
-passed (Refused r) h = let z : ◌≡◌ {A = ℕ} 1 0 = h in absurd (omega arith)
+use Rattle.std.specs.Prelude.{Ok, Err}
+use Rattle.refusal.specs.Questions.{Verdict, Pass, refusal_number, reported, ask, ◌then◌, ask_each, room_question, on_pass}
 
 -- a verdict answered is also answered in figures
 pub as-reported : {answer verdict : Verdict} → answer ≡ verdict → (answer ≡ verdict) × (reported answer ≡ reported verdict)
 as-reported h = (h, ap reported h)
 
--- a refusal is one
-pub is-refused : {v : Verdict} {r : Refusal} → v ≡ Refused r → IsRefused v
-is-refused h = rw h
+-- no verdict is both
+pub passed-not-refused : {A : Type 0} {r : Refusal} → Pass ≡ Err r → A
+passed-not-refused h = cc
 
 -- One question.
 pub ask-yes : {b : Bool} (r : Refusal) → b ≡ true → ask b r ≡ Pass
-unfolding ask
 ask-yes r h = rw h
 
-pub ask-no : {b : Bool} (r : Refusal) → b ≡ false → ask b r ≡ Refused r
-unfolding ask
+pub ask-no : {b : Bool} (r : Refusal) → b ≡ false → ask b r ≡ Err r
 ask-no r h = rw h
 
 -- a test that cannot hold does not
@@ -55,58 +35,46 @@ fails true never = absurd (never refl)
 fails false never = refl
 
 -- a question that cannot pass is answered by its refusal
-pub refuses : (b : Bool) (r : Refusal) → (ask b r ≡ Pass → ⊥) → Refused r ≡ ask b r
+pub refuses : (b : Bool) (r : Refusal) → (ask b r ≡ Pass → ⊥) → Err r ≡ ask b r
 refuses b r never = sym (ask-no r (fails b (λ h. never (ask-yes r h))))
 
 -- One question after the other.
 pub then-pass : {v : Verdict} (next : Verdict) → v ≡ Pass → (v then next) ≡ next
-unfolding ◌then◌
 then-pass next h = rw h
 
-pub then-refused : (v next : Verdict) → IsRefused v → (v then next) ≡ v
-unfolding ◌then◌
-then-refused Pass next h = passed-not-refused h
-then-refused (Refused r) next h = refl
-
--- a check answers the refusal v of a question as it is
-pub stops : {v question : Verdict} (next : Verdict) → v ≡ question → IsRefused v → v ≡ (question then next)
-stops {v} next e t = rw (← e) (sym (then-refused v next t))
-
--- a check goes on to the next question after one that passed
-pub goes_on : {v question answer next : Verdict} → v ≡ question → IsPass v → answer ≡ next → answer ≡ (question then next)
-goes_on {v} e t h = h ∙ sym (then-pass _ (sym e ∙ passed v t))
-
 -- the refusal r of a question is the whole check's
-pub refused-first : {question : Verdict} {r : Refusal} (next : Verdict) → question ≡ Refused r → (question then next) ≡ Refused r
-unfolding ◌then◌
+pub refused-first : {question : Verdict} {r : Refusal} (next : Verdict) → question ≡ Err r → (question then next) ≡ Err r
 refused-first next h = rw h
 
+-- a check answers the refusal r of a question as it is
+pub stops : {v question : Verdict} {r : Refusal} (next : Verdict) → v ≡ question → v ≡ Err r → Err r ≡ (question then next)
+stops next e t = sym (refused-first next (sym e ∙ t))
+
+-- a check goes on to the next question after one that passed
+pub goes_on : {v question answer next : Verdict} → v ≡ question → v ≡ Pass → answer ≡ next → answer ≡ (question then next)
+goes_on e t h = h ∙ sym (then-pass _ (sym e ∙ t))
+
 -- so is the refusal r of the first two
-pub refused-second : (a b next : Verdict) {r : Refusal} → (a then b) ≡ Refused r → (a then b then next) ≡ Refused r
-unfolding ◌then◌
-refused-second Pass b next h = refused-first next h
-refused-second (Refused r) b next h = h
+pub refused-second : (a b next : Verdict) {r : Refusal} → (a then b) ≡ Err r → (a then b then next) ≡ Err r
+refused-second (Ok _) b next h = refused-first next h
+refused-second (Err r) b next h = h
 
 -- after the first two passed the next counts
 pub passed-second : (a b next : Verdict) → (a then b) ≡ Pass → (a then b then next) ≡ next
-unfolding ◌then◌
-passed-second Pass b next h = then-pass next h
-passed-second (Refused r) b next h = cc
+passed-second (Ok _) b next h = then-pass next h
+passed-second (Err r) b next h = cc
 
 -- Question 12.
 module _ (needed room : ℕ) where
   pub room-enough : needed ≤ room → room_question needed room ≡ Pass
-  unfolding room_question
   room-enough h = ask-yes (ShortOutput needed) (le-leb needed room h)
 
-  pub room-short : room < needed → room_question needed room ≡ Refused (ShortOutput needed)
-  unfolding room_question
+  pub room-short : room < needed → room_question needed room ≡ Err (ShortOutput needed)
   room-short h = ask-no (ShortOutput needed) (lt-leb needed room h)
 
 -- What is answered, or left in memory, on a refusal.
-pub on-refused : {A : Type 0} (v : Verdict) (a b : A) → IsRefused v → on_pass v a b ≡ b
-on-refused Pass a b h = passed-not-refused h
-on-refused (Refused r) a b h = refl
+pub on-refused : {A : Type 0} {v : Verdict} {r : Refusal} (a b : A) → v ≡ Err r → on_pass v a b ≡ b
+on-refused a b h = rw h
 
 -- A loop asks the n questions that are left, from `at` on, and answers `whole`: what is left to ask is all that counts.
 pub record Asking (question : ℕ → Verdict) (step n at : ℕ) (whole : Verdict) : Type 0 where
@@ -120,7 +88,7 @@ module _ {question : ℕ → Verdict} {step n at : ℕ} {whole : Verdict} (loop 
       rw e at loop.asked
 
   -- the question did not pass at this place
-  pub refused-here : {v : Verdict} → 0 < n → v ≡ question at → IsRefused v → v ≡ whole
+  pub refused-here : {v : Verdict} {r : Refusal} → 0 < n → v ≡ question at → v ≡ Err r → Err r ≡ whole
   refused-here h e t = stops _ e t ∙ turn h
 
   -- the question passed at this place
@@ -147,20 +115,17 @@ module _ (question : ℕ → Verdict) (step : ℕ) where
 
 -- The other way round: what a check that passed tells of its questions.
 pub ask-passed : (b : Bool) (r : Refusal) → ask b r ≡ Pass → b ≡ true
-unfolding ask
 ask-passed true r h = refl
 ask-passed false r h = cc
 
 pub then-first : (v next : Verdict) → (v then next) ≡ Pass → v ≡ Pass
-unfolding ◌then◌
-then-first Pass next h = refl
-then-first (Refused r) next h = h
+then-first (Ok _) next h = refl
+then-first (Err r) next h = h
 
 pub then_next : (v next : Verdict) → (v then next) ≡ Pass → next ≡ Pass
 then_next v next h = sym (then-pass next (then-first v next h)) ∙ h
 
 pub room-passed : (needed room : ℕ) → room_question needed room ≡ Pass → needed ≤ room
-unfolding room_question
 room-passed needed room h = leb-true needed room (ask-passed _ (ShortOutput needed) h)
 
 -- the question passed at each of the n places

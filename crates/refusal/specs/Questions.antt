@@ -1,15 +1,20 @@
 -- Document 01, "The questions, first "no" counts": how questions are asked one after the other, and the number and place
 -- that a refusal is reported with.
-use Rattle.std.specs.Prelude.{Bool, true, false, List, ◌++◌, ℕ, zero, suc, ◌+◌, leb, length, drop}
+use Rattle.std.specs.Prelude.{Bool, true, false, List, ◌++◌, ℕ, zero, suc, ◌+◌, leb, length, drop, Result, Ok, Err}
 use Rattle.refusal.specs.declared.Refusal.{Refusal}
 use Rattle.refusal.specs.declared.Refusal.TheVariants.{NoMark, WrongVersion, WrongLength, BadCode, BadValue, NoGroup, BadDate}
 use Rattle.refusal.specs.declared.Refusal.TheVariants.{BadPeriod, BadHoliday, BadUse, BadCarry, ShortOutput, BadInput}
 use Rattle.refusal.specs.declared.Refusal.TheVariants.{BadYear, BadChoice, ShortList, WrongReadings, BadFirstDate, ShortPage}
 use Rattle.refusal.specs.declared.CheckReport.{CheckReport}
-use Rattle.refusal.specs.declared.Verdict.{Verdict}
-use Rattle.refusal.specs.declared.Verdict.TheVariants.{Pass, Refused}
 
 infixr 5 ◌then◌
+-- every question asked passed, or the first one that did not
+abbrev pub Verdict : Type 0
+Verdict = Result Unit Refusal
+
+abbrev pub Pass : Verdict
+Pass = Ok tt
+
 -- the questions' numbers: 1 to 13 of document 01, and those of document 02, "New questions, here and later, count as document 01's"
 abbrev pub refusal_number : Refusal → ℕ
 refusal_number NoMark = 1
@@ -56,26 +61,26 @@ refusal_place (ShortPage needed) = needed
 
 -- "number and place, both 0 when all pass"
 abbrev pub number : Verdict → ℕ
-number Pass = 0
-number (Refused r) = refusal_number r
+number (Ok _) = 0
+number (Err r) = refusal_number r
 
 abbrev pub place : Verdict → ℕ
-place Pass = 0
-place (Refused r) = refusal_place r
+place (Ok _) = 0
+place (Err r) = refusal_place r
 
 -- the two numbers together
 abbrev pub reported : Verdict → CheckReport
 reported v = record { number = number v; place = place v }
 
 -- one question: where the answer is "no" the call is refused by r
-unfoldable pub ask : Bool → Refusal → Verdict
+abbrev pub ask : Bool → Refusal → Verdict
 ask true r = Pass
-ask false r = Refused r
+ask false r = Err r
 
 -- "first "no" counts": the first verdict where it is a refusal, else the next
-unfoldable pub ◌then◌ : Verdict → Verdict → Verdict
-Pass then next = next
-Refused r then next = Refused r
+abbrev pub ◌then◌ : Verdict → Verdict → Verdict
+Ok _ then next = next
+Err r then next = Err r
 
 -- the same question at `at`, `at + step`, `at + step + step`, .., n times
 unfoldable pub ask_each : (ℕ → Verdict) → ℕ → ℕ → ℕ → Verdict
@@ -83,13 +88,18 @@ ask_each question step zero at = Pass
 ask_each question step (suc n) at = question at then ask_each question step n (at + step)
 
 -- 12. "Is the lent output long enough?": "place = entries needed (for writing, bytes)"
-unfoldable pub room_question : ℕ → ℕ → Verdict
+abbrev pub room_question : ℕ → ℕ → Verdict
 room_question needed room = ask (leb needed room) (ShortOutput needed)
+
+-- a call's answer: what it found where every question passed, else the refusal
+abbrev pub answered : {A : Type 0} → Verdict → A → Result A Refusal
+answered (Ok _) found = Ok found
+answered (Err r) found = Err r
 
 -- a where every question passed, else b
 abbrev pub on_pass : {A : Type 0} → Verdict → A → A → A
-on_pass Pass a b = a
-on_pass (Refused r) a b = b
+on_pass (Ok _) a b = a
+on_pass (Err r) a b = b
 
 -- lent memory after a call: "An accepted call fills the entries it needs from the start of the lent output and keeps those
 -- beyond"; on a refusal "lent memory keeps its content"
