@@ -10,7 +10,7 @@ use lib.Dec.{ltb, eqb}
 use lib.ListN.{length, get_or}
 use borrow.Author.Tests.{eq-eqb, ltb-true, eqb-true, ne_eqb, eqb-false, ltb-false}
 use Rattle.refusal.specs.declared.Refusal.TheVariants.{BadHoliday}
-use Rattle.refusal.specs.declared.Verdict.TheVariants.{Pass}
+use Rattle.refusal.specs.Questions.{Pass}
 use Rattle.refusal.proofs.Questions.{ask-passed, each-passed, both}
 use Rattle.calendar_dates.specs.Dates.{date_of, is_date}
 use Rattle.calendar_holidays.specs.Holidays.{listed, holiday_question, holidays_question}

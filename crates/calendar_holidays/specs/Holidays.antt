@@ -1,7 +1,7 @@
 -- Document 01, question 9, and "a listed holiday".
 use Rattle.std.specs.Prelude.{Bool, false, ◌&&◌, ◌||◌, List, [], ◌∷◌, ℕ, ◌-◌, ltb, eqb, length, get_or}
 use Rattle.refusal.specs.declared.Refusal.TheVariants.{BadHoliday}
-use Rattle.refusal.specs.declared.Verdict.{Verdict}
+use Rattle.refusal.specs.Questions.{Verdict}
 use Rattle.refusal.specs.Questions.{ask, ask_each}
 use Rattle.calendar_dates.specs.Dates.{date_of, is_date}
 

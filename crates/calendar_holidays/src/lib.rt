@@ -3,11 +3,11 @@
 #![tactic(auto)]
 
 ghost use Rattle.std.specs.Prelude.{◌≡◌, ◌<◌, length};
-ghost use Rattle.refusal.specs.declared.Verdict.TheVariants.{Pass};
+ghost use Rattle.refusal.specs.Questions.{Pass};
 ghost use Rattle.calendar_holidays.specs.Holidays.{listed, holiday_question, holidays_question};
 ghost use Rattle.calendar_holidays.specs.Inside.{Passed, Reached};
 
-use refusal::{Refusal, Verdict};
+use refusal::Refusal;
 
 // Whether a date, as a number, stands in the list.
 pub fn is_listed(date: u32, holidays: &[u32]) -> bool
@@ -24,11 +24,11 @@ pub fn is_listed(date: u32, holidays: &[u32]) -> bool
 }
 
 // Question 9, of one entry.
-fn holiday_question(holidays: &[u32], index: usize) -> Verdict
+fn holiday_question(holidays: &[u32], index: usize) -> Result<(), Refusal>
     requires { index < length holidays.now }
     ensures { result ≡ holiday_question holidays.now index }
 {
-    let refused = Verdict::Refused(Refusal::BadHoliday(index));
+    let refused = Err(Refusal::BadHoliday(index));
     if 400 <= index {
         return refused;
     }
@@ -40,24 +40,21 @@ fn holiday_question(holidays: &[u32], index: usize) -> Verdict
             return refused;
         }
     }
-    Verdict::Pass
+    Ok(())
 }
 
 // Question 9.
-pub fn holidays_question(holidays: &[u32]) -> Verdict
+pub fn holidays_question(holidays: &[u32]) -> Result<(), Refusal>
     ensures { result ≡ holidays_question holidays.now }
 {
     let mut left = holidays.len();
     let mut at: usize = 0;
     while 0 < left {
-        let v = holiday_question(holidays, at);
-        let Verdict::Pass = v else {
-            return v;
-        };
+        holiday_question(holidays, at)?;
         at += 1;
         left -= 1;
     }
-    Verdict::Pass
+    Ok(())
 }
 
 // The place of the first entry that is not earlier than the date. The entries in front of `from` are all earlier.

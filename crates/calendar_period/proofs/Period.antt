@@ -1,4 +1,6 @@
 -- What a day knows of itself, the values of a period's days, and what questions 7 and 8 say of a period. Assumes nothing.
+use Rattle.refusal.specs.Questions.{answered}
+use Rattle.std.specs.Prelude.{Ok, Err}
 use mathlib.Core.Path.{◌≡◌, refl, ◌∙◌, ap}
 use mathlib.Core.Bool.{true}
 use Prim.Native.Nat.{ℕ, zero, suc, ◌+◌, ◌-◌, ◌*◌, ◌≤◌, ◌<◌}
@@ -7,8 +9,8 @@ use lib.Dec.{leb}
 use borrow.Author.Tests.{le-leb, leb-true}
 use Rattle.refusal.specs.declared.Refusal.{Refusal}
 use Rattle.refusal.specs.declared.Refusal.TheVariants.{BadDate, BadPeriod}
-use Rattle.refusal.specs.declared.Verdict.{Verdict}
-use Rattle.refusal.specs.declared.Verdict.TheVariants.{Pass}
+use Rattle.refusal.specs.Questions.{Verdict}
+use Rattle.refusal.specs.Questions.{Pass}
 use Rattle.refusal.specs.Questions.{◌then◌}
 use Rattle.refusal.proofs.Questions.{ask-yes, then-pass, ask-passed, then-first, then_next, both}
 use Rattle.calendar_dates.specs.declared.Date.{Date}
@@ -17,11 +19,9 @@ use Rattle.calendar_days.specs.declared.Clock.{Clock}
 use Rattle.calendar_days.specs.declared.Clock.TheVariants.{Unchanged, Forward, Back}
 use Rattle.calendar_days.specs.Days.{clock, value_count_under, value_count}
 use Rattle.calendar_period.specs.declared.CalendarDay.{CalendarDay}
-use Rattle.calendar_period.specs.declared.Counted.{Counted}
-use Rattle.calendar_period.specs.declared.Dated.{Dated}
 use Rattle.calendar_period.specs.declared.PeriodDays.{PeriodDays}
 use Rattle.calendar_period.specs.Period.{date_question, days_of, period_question, period_check, value_count_of_days}
-use Rattle.calendar_period.specs.Inside.{dated_by, counted_by, RealDay}
+use Rattle.calendar_period.specs.Inside.{RealDay}
 
 -- what a day knows of itself
 module _ {day : CalendarDay} (real : RealDay day) where
@@ -79,18 +79,18 @@ module _ (first last : ℕ) where
       ∙ ask-yes BadPeriod (rw (le-leb _ _ p.ordered, le-leb _ _ p.short))
 
 -- What the answers of the two checks tell of the questions asked, and the other way round.
-pub dated-real : (v : Verdict) {d given : Date} → Dated.Real d ≡ dated_by v given → (v ≡ Pass) × (d ≡ given)
-dated-real Pass h = (refl, cc)
-dated-real (Verdict.Refused r) h = let z : ◌≡◌ {A = ℕ} 0 1 = cc in absurd (omega arith)
+pub dated-real : (v : Verdict) {d given : Date} → Ok d ≡ answered v given → (v ≡ Pass) × (d ≡ given)
+dated-real (Ok _) h = (refl, cc)
+dated-real (Err r) h = let z : ◌≡◌ {A = ℕ} 0 1 = cc in absurd (omega arith)
 
-pub dated-refused : (v : Verdict) (given : Date) {r : Refusal} → Dated.Refused r ≡ dated_by v given → v ≡ Verdict.Refused r
-dated-refused Pass given h = let z : ◌≡◌ {A = ℕ} 0 1 = cc in absurd (omega arith)
-dated-refused (Verdict.Refused r) given h = cc
+pub dated-refused : (v : Verdict) (given : Date) {r : Refusal} → Err r ≡ answered v given → v ≡ Err r
+dated-refused (Ok _) given h = let z : ◌≡◌ {A = ℕ} 0 1 = cc in absurd (omega arith)
+dated-refused (Err r) given h = cc
 
-pub answers-real : {v : Verdict} {d given : Date} → v ≡ Pass → d ≡ given → Dated.Real d ≡ dated_by v given
+pub answers-real : {v : Verdict} {d given : Date} → v ≡ Pass → d ≡ given → Ok d ≡ answered v given
 answers-real p e = rw (p, e)
 
-pub answers-bad : {v : Verdict} {r : Refusal} (given : Date) → v ≡ Verdict.Refused r → Dated.Refused r ≡ dated_by v given
+pub answers-bad : {v : Verdict} {r : Refusal} (given : Date) → v ≡ Err r → Err r ≡ answered v given
 answers-bad given h = rw h
 
 -- a date whose question passed
@@ -98,16 +98,16 @@ pub real-date : (number place : ℕ) → date_question number place ≡ Pass →
 unfolding date_question
 real-date number place h = ask-passed _ (BadDate place) h
 
-pub counted-days : (v : Verdict) {days given : PeriodDays} → Counted.Days days ≡ counted_by v given → (v ≡ Pass) × (days ≡ given)
-counted-days Pass h = (refl, cc)
-counted-days (Verdict.Refused r) h = let z : ◌≡◌ {A = ℕ} 0 1 = cc in absurd (omega arith)
+pub counted-days : (v : Verdict) {days given : PeriodDays} → Ok days ≡ answered v given → (v ≡ Pass) × (days ≡ given)
+counted-days (Ok _) h = (refl, cc)
+counted-days (Err r) h = let z : ◌≡◌ {A = ℕ} 0 1 = cc in absurd (omega arith)
 
-pub counted-refused : (v : Verdict) (given : PeriodDays) {r : Refusal} → Counted.Refused r ≡ counted_by v given → v ≡ Verdict.Refused r
-counted-refused Pass given h = let z : ◌≡◌ {A = ℕ} 0 1 = cc in absurd (omega arith)
-counted-refused (Verdict.Refused r) given h = cc
+pub counted-refused : (v : Verdict) (given : PeriodDays) {r : Refusal} → Err r ≡ answered v given → v ≡ Err r
+counted-refused (Ok _) given h = let z : ◌≡◌ {A = ℕ} 0 1 = cc in absurd (omega arith)
+counted-refused (Err r) given h = cc
 
-pub answers-days : {v : Verdict} {days given : PeriodDays} → v ≡ Pass → days ≡ given → Counted.Days days ≡ counted_by v given
+pub answers-days : {v : Verdict} {days given : PeriodDays} → v ≡ Pass → days ≡ given → Ok days ≡ answered v given
 answers-days p e = rw (p, e)
 
-pub answers-refused : {v : Verdict} {r : Refusal} (given : PeriodDays) → v ≡ Verdict.Refused r → Counted.Refused r ≡ counted_by v given
+pub answers-refused : {v : Verdict} {r : Refusal} (given : PeriodDays) → v ≡ Err r → Err r ≡ answered v given
 answers-refused given h = rw h

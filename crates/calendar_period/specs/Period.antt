@@ -1,7 +1,7 @@
 -- Document 01, "A period has 1 to 1,461 days, both end dates included", questions 7 and 8, and the values of days one after the other.
 use Rattle.std.specs.Prelude.{◌&&◌, ℕ, zero, suc, ◌+◌, ◌-◌, leb}
 use Rattle.refusal.specs.declared.Refusal.TheVariants.{BadDate, BadPeriod}
-use Rattle.refusal.specs.declared.Verdict.{Verdict}
+use Rattle.refusal.specs.Questions.{Verdict}
 use Rattle.refusal.specs.Questions.{ask, ◌then◌}
 use Rattle.calendar_dates.specs.declared.Date.{Date}
 use Rattle.calendar_dates.specs.Dates.{date_of, is_date, day_number, next_day}

@@ -5,7 +5,8 @@
 ghost use Rattle.std.specs.Prelude.{◌≡◌, true, ◌≤◌};
 ghost use Rattle.calendar_dates.specs.Dates.{date_of, is_date, next_day, AllDates};
 ghost use Rattle.calendar_period.specs.Period.{date_question, period_question, period_check, value_count_of_days};
-ghost use Rattle.calendar_period.specs.Inside.{dated_by, calendar_day, period_days, counted_by};
+ghost use Rattle.refusal.specs.Questions.{answered};
+ghost use Rattle.calendar_period.specs.Inside.{calendar_day, period_days};
 
 use calendar_dates::Date;
 use refusal::Refusal;
@@ -18,14 +19,14 @@ pub enum Dated {
 }
 
 // Question 7, of one date.
-pub fn date_in(number: u32, place: usize) -> Dated
-    ensures { result ≡ dated_by (date_question number place) (date_of number) }
+pub fn date_in(number: u32, place: usize) -> Result<Date, Refusal>
+    ensures { result ≡ answered (date_question number place) (date_of number) }
 {
     let d = calendar_dates::date_of(number);
     if calendar_dates::is_date(d) {
-        return Dated::Real(d);
+        return Ok(d);
     }
-    Dated::Refused(Refusal::BadDate(place))
+    Err(Refusal::BadDate(place))
 }
 
 // A date with its weekday and its t, which the next day's follow from.
@@ -86,37 +87,31 @@ pub enum Counted {
 }
 
 // Question 8, of two dates.
-fn days_between(first: Date, last: Date) -> Counted
+fn days_between(first: Date, last: Date) -> Result<PeriodDays, Refusal>
     requires { (is_date first ≡ true) × (is_date last ≡ true) }
-    ensures { result ≡ counted_by (period_question first last) (period_days first last) }
+    ensures { result ≡ answered (period_question first last) (period_days first last) }
 {
     let from = calendar_dates::day_number(first);
     let to = calendar_dates::day_number(last);
     if to < from {
-        return Counted::Refused(Refusal::BadPeriod);
+        return Err(Refusal::BadPeriod);
     }
     let days = to + 1 - from;
     if 1_461 < days {
-        return Counted::Refused(Refusal::BadPeriod);
+        return Err(Refusal::BadPeriod);
     }
-    Counted::Days(PeriodDays {
+    Ok(PeriodDays {
         first: calendar_day(first),
         days,
     })
 }
 
 // Questions 7 and 8.
-pub fn count_days(first: u32, last: u32) -> Counted
-    ensures { result ≡ counted_by (period_check first last) (period_days (date_of first) (date_of last)) }
+pub fn count_days(first: u32, last: u32) -> Result<PeriodDays, Refusal>
+    ensures { result ≡ answered (period_check first last) (period_days (date_of first) (date_of last)) }
 {
-    let from = match date_in(first, 0) {
-        Dated::Real(d) => d,
-        Dated::Refused(refusal) => return Counted::Refused(refusal),
-    };
-    let to = match date_in(last, 1) {
-        Dated::Real(d) => d,
-        Dated::Refused(refusal) => return Counted::Refused(refusal),
-    };
+    let from = date_in(first, 0)?;
+    let to = date_in(last, 1)?;
     days_between(from, to)
 }
 

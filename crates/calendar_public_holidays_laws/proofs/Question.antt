@@ -11,7 +11,7 @@ use borrow.Author.Tests.{lt-ltb}
 use Rattle.lists.specs.Lists.{Each, Before, Rising}
 use Rattle.lists.proofs.Members.{each_append}
 use Rattle.refusal.specs.declared.Refusal.TheVariants.{BadHoliday}
-use Rattle.refusal.specs.declared.Verdict.TheVariants.{Pass}
+use Rattle.refusal.specs.Questions.{Pass}
 use Rattle.refusal.proofs.Questions.{ask-yes, each-pass}
 use Rattle.calendar_dates.specs.Dates.{date_of, is_date}
 use Rattle.calendar_holidays.specs.Holidays.{holiday_question, holidays_question}

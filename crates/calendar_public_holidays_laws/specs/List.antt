@@ -1,7 +1,7 @@
 -- What the holiday list of a year has, in every year of the span and for every choice. Proved in proofs/List.antt.
 use Rattle.std.specs.Prelude.{◌≡◌, Bool, false, ◌&&◌, ◌||◌, List, map, ℕ, ◌+◌, ◌/◌, ◌%◌, ◌^◌, ◌≤◌, eqb, length}
 use Rattle.lists.specs.Lists.{Rising}
-use Rattle.refusal.specs.declared.Verdict.TheVariants.{Pass}
+use Rattle.refusal.specs.Questions.{Pass}
 use Rattle.calendar_dates.specs.Dates.{number_of}
 use Rattle.calendar_holidays.specs.Holidays.{listed, holidays_question}
 use Rattle.calendar_movable_days.specs.Counted.{on}

@@ -11,7 +11,7 @@ use borrow.Author.Tests.{leb-true, ltb-true, ltb-false, eqb-true, eq-eqb, ne_eqb
 use Rattle.lists.specs.Lists.{Before}
 use Rattle.lists.proofs.Parts.{drop-next}
 use Rattle.refusal.specs.declared.Refusal.TheVariants.{WrongReadings, BadFirstDate}
-use Rattle.refusal.specs.declared.Verdict.TheVariants.{Pass}
+use Rattle.refusal.specs.Questions.{Pass}
 use Rattle.refusal.proofs.Questions.{ask-passed, each-passed, both}
 use Rattle.calendar_dates.specs.declared.Date.{Date}
 use Rattle.calendar_dates.specs.Dates.{date_of, number_of, is_date, day_number, next_day, days_later}

@@ -1,7 +1,7 @@
 -- Document 02, (c): "1 to 48 adjacent reading periods", given by their first dates inside a span: what is asked of them, and the periods.
 use Rattle.std.specs.Prelude.{cond, ◌&&◌, List, [], ◌∷◌, ℕ, ◌-◌, leb, ltb, eqb, length, get_or}
 use Rattle.refusal.specs.declared.Refusal.TheVariants.{WrongReadings, BadFirstDate}
-use Rattle.refusal.specs.declared.Verdict.{Verdict}
+use Rattle.refusal.specs.Questions.{Verdict}
 use Rattle.refusal.specs.Questions.{ask, ask_each}
 use Rattle.calendar_dates.specs.Dates.{date_of, number_of, is_date, day_number, days_later}
 

@@ -8,16 +8,16 @@ ghost use Rattle.calendar_reading_periods.specs.ReadingPeriods.{readings_questio
 ghost use Rattle.calendar_reading_periods.specs.Inside.{PeriodsFrom, number_after};
 
 use calendar_period::PeriodDays;
-use refusal::{Refusal, Verdict};
+use refusal::Refusal;
 
 // The most reading periods of a call.
 pub const MOST_PERIODS: usize = 48;
 
 // Question 17, of how many first dates and metered values there are.
-pub fn readings_question(dates: usize, values: usize) -> Verdict
+pub fn readings_question(dates: usize, values: usize) -> Result<(), Refusal>
     ensures { result ≡ readings_question dates values }
 {
-    let refused = Verdict::Refused(Refusal::WrongReadings);
+    let refused = Err(Refusal::WrongReadings);
     if dates < 1 {
         return refused;
     }
@@ -27,7 +27,7 @@ pub fn readings_question(dates: usize, values: usize) -> Verdict
     if values != dates {
         return refused;
     }
-    Verdict::Pass
+    Ok(())
 }
 
 // Whether a first date stands where it may: the first one at the span's start, each later one behind the one before it.
@@ -42,11 +42,11 @@ fn in_sequence(first: u32, starts: &[u32], index: usize) -> bool
 }
 
 // Question 18, of one first date.
-fn first_date_question(first: u32, last: u32, starts: &[u32], index: usize) -> Verdict
+fn first_date_question(first: u32, last: u32, starts: &[u32], index: usize) -> Result<(), Refusal>
     requires { index < length starts.now }
     ensures { result ≡ first_date_question first last starts.now index }
 {
-    let refused = Verdict::Refused(Refusal::BadFirstDate(index));
+    let refused = Err(Refusal::BadFirstDate(index));
     let start = starts[index];
     if !calendar_dates::is_date(calendar_dates::date_of(start)) {
         return refused;
@@ -60,24 +60,21 @@ fn first_date_question(first: u32, last: u32, starts: &[u32], index: usize) -> V
     if last < start {
         return refused;
     }
-    Verdict::Pass
+    Ok(())
 }
 
 // Question 18.
-pub fn first_dates_question(first: u32, last: u32, starts: &[u32]) -> Verdict
+pub fn first_dates_question(first: u32, last: u32, starts: &[u32]) -> Result<(), Refusal>
     ensures { result ≡ first_dates_question first last starts.now }
 {
     let mut left = starts.len();
     let mut at: usize = 0;
     while 0 < left {
-        let v = first_date_question(first, last, starts, at);
-        let Verdict::Pass = v else {
-            return v;
-        };
+        first_date_question(first, last, starts, at)?;
         at += 1;
         left -= 1;
     }
-    Verdict::Pass
+    Ok(())
 }
 
 // The number of the day after a period: that of the next first date, or of the day after the span.

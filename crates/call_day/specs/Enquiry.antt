@@ -1,8 +1,10 @@
 -- Document 01: "A day enquiry takes a date and a list and gives weekday (1 Monday to 7 Sunday), t, season, day type (1 weekday,
 -- 2 Saturday, 3 Sunday) and value count."
+use Rattle.refusal.specs.Questions.{answered}
+use Rattle.std.specs.Prelude.{Result, Ok, Err}
 use Rattle.std.specs.Prelude.{List, ℕ}
 use Rattle.refusal.specs.declared.Refusal.{Refusal}
-use Rattle.refusal.specs.declared.Verdict.{Verdict}
+use Rattle.refusal.specs.Questions.{Verdict}
 use Rattle.refusal.specs.Questions.{refusal_number, refusal_place, ◌then◌}
 use Rattle.calendar_dates.specs.declared.Date.{Date}
 use Rattle.calendar_dates.specs.Dates.{date_of, day_of_year, weekday_of}
@@ -12,7 +14,6 @@ use Rattle.calendar_days.specs.declared.DayType.{DayType}
 use Rattle.calendar_days.specs.Days.{season, day_type, value_count}
 use Rattle.calendar_period.specs.Period.{date_question}
 use Rattle.call_day.specs.declared.Day.{Day}
-use Rattle.call_day.specs.declared.DayAnswer.{DayAnswer}
 use Rattle.call_day.specs.declared.DayReport.{DayReport}
 
 -- what the enquiry says of a date
@@ -30,10 +31,9 @@ describe d holidays =
 abbrev pub day_check : ℕ → List ℕ → Verdict
 day_check date holidays = date_question date 0 then holidays_question holidays
 
--- the description where both pass, else the refusal
-abbrev pub answered : Verdict → Day → DayAnswer
-answered Verdict.Pass day = DayAnswer.Described day
-answered (Verdict.Refused r) day = DayAnswer.Refused r
+-- what the day enquiry answers, or the first question that did not pass
+abbrev pub DayAnswer : Type 0
+DayAnswer = Result Day Refusal
 
 unfoldable pub day_enquiry : ℕ → List ℕ → DayAnswer
 day_enquiry date holidays = answered (day_check date holidays) (describe (date_of date) holidays)
@@ -68,5 +68,5 @@ reported_refusal r =
     record { number = refusal_number r; place = refusal_place r; weekday = 0; t = 0; season = 0; day_type = 0; value_count = 0 }
 
 abbrev pub reported : DayAnswer → DayReport
-reported (DayAnswer.Described day) = reported_day day
-reported (DayAnswer.Refused r) = reported_refusal r
+reported (Ok day) = reported_day day
+reported (Err r) = reported_refusal r

@@ -8,7 +8,7 @@ ghost use Rattle.call_day.specs.Enquiry.{describe, day_enquiry, season_digit, da
 use calendar_dates::Date;
 use calendar_days::{DayType, Season};
 use calendar_period::Dated;
-use refusal::{Refusal, Verdict};
+use refusal::Refusal;
 
 #[derive(Clone, Copy)]
 pub struct Day {
@@ -54,18 +54,13 @@ fn describe(d: Date, holidays: &[u32]) -> Day
 }
 
 // Describes the day of a date, or refuses by the first failing question.
-pub fn enquire(date: u32, holidays: &[u32]) -> DayAnswer
+pub fn enquire(date: u32, holidays: &[u32]) -> Result<Day, Refusal>
     ensures value { result ≡ day_enquiry date holidays.now }
     ensures result_value { reported result ≡ reported (day_enquiry date holidays.now) }
 {
-    let d = match calendar_period::date_in(date, 0) {
-        Dated::Real(d) => d,
-        Dated::Refused(refusal) => return DayAnswer::Refused(refusal),
-    };
-    if let Verdict::Refused(refusal) = calendar_holidays::holidays_question(holidays) {
-        return DayAnswer::Refused(refusal);
-    }
-    DayAnswer::Described(describe(d, holidays))
+    let d = calendar_period::date_in(date, 0)?;
+    calendar_holidays::holidays_question(holidays)?;
+    Ok(describe(d, holidays))
 }
 
 // 1 winter, 2 summer, 3 transition: the order of the tables in the profile file.
@@ -110,8 +105,8 @@ fn report_refusal(refusal: Refusal) -> DayReport
     ensures { result ≡ reported_refusal refusal }
 {
     DayReport {
-        number: refusal::number_of(refusal),
-        place: refusal::place_of(refusal),
+        number: refusal.number(),
+        place: refusal.place(),
         weekday: 0,
         t: 0,
         season: 0,
@@ -121,11 +116,11 @@ fn report_refusal(refusal: Refusal) -> DayReport
 }
 
 // The answer as document 01's numbers.
-pub fn report(answer: DayAnswer) -> DayReport
+pub fn report(answer: Result<Day, Refusal>) -> DayReport
     ensures { result ≡ reported answer }
 {
     match answer {
-        DayAnswer::Described(day) => report_day(day),
-        DayAnswer::Refused(refusal) => report_refusal(refusal),
+        Ok(day) => report_day(day),
+        Err(refusal) => report_refusal(refusal),
     }
 }

@@ -1,4 +1,5 @@
 -- What each way through the call comes to, and that the differences worked out are those that are defined. Assumes nothing.
+use Rattle.std.specs.Prelude.{Err}
 use mathlib.Core.Path.{◌≡◌, refl, sym, ◌∙◌, ap}
 use mathlib.Core.List.{List, [], ◌∷◌, ◌++◌}
 use Prim.Native.Nat.{ℕ, ◌≤◌}
@@ -8,8 +9,8 @@ use lib.ListN.{length, drop}
 use borrow.Author.Tests.{leb-true}
 use Rattle.refusal.specs.declared.Refusal.{Refusal}
 use Rattle.refusal.specs.declared.Refusal.TheVariants.{BadUse}
-use Rattle.refusal.specs.declared.Verdict.{Verdict}
-use Rattle.refusal.specs.declared.Verdict.TheVariants.{Pass, Refused}
+use Rattle.refusal.specs.Questions.{Verdict}
+use Rattle.refusal.specs.Questions.{Pass}
 use Rattle.refusal.specs.Questions.{reported, ◌then◌}
 use Rattle.refusal.proofs.Questions.{IsRefused, on-refused, refused-second, passed-second, then-first, then_next, ask-passed, room-passed}
 use Rattle.calendar_holidays.specs.Holidays.{holidays_question}
@@ -105,10 +106,10 @@ module _ (d : Deliveries) where
       ∙ length-differences (basis_of (whole_span d)) d.yearly d.metered d.last d.starts 0 same
 
   -- refused by the file, the group or the span
-  pub span-refused : {r : Refusal} → span ≡ Refused r → Delivers d (Refused r) d.output
+  pub span-refused : {r : Refusal} → span ≡ Err r → Delivers d (Err r) d.output
   unfolding deliveries_check output_after
   span-refused {r} e =
-      let v : deliveries_check d ≡ Refused r = refused-second _ _ _ e in
+      let v : deliveries_check d ≡ Err r = refused-second _ _ _ e in
       record { answers = sym v; reports = ap reported (sym v); leaves = rw v }
 
   -- by a question behind the span

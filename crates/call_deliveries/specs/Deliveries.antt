@@ -1,7 +1,7 @@
 -- Document 02, (c), "Over and under deliveries": what the call is given, what is asked of it, and what it leaves in the lent output,
 -- accepted and refused.
 use Rattle.std.specs.Prelude.{◌≡◌, List, [], ◌∷◌, ℕ, ◌*◌, ℤ, pos, ◌-ℤ◌, length}
-use Rattle.refusal.specs.declared.Verdict.{Verdict}
+use Rattle.refusal.specs.Questions.{Verdict}
 use Rattle.refusal.specs.declared.CheckReport.{CheckReport}
 use Rattle.refusal.specs.Questions.{reported, ◌then◌, room_question, lent_after}
 use Rattle.calendar_holidays.specs.Holidays.{holidays_question}

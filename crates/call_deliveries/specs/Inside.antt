@@ -1,7 +1,7 @@
 -- What the inner functions ask and promise. No definition of document 02.
 use Rattle.std.specs.Prelude.{◌≡◌, List, [], ◌∷◌, ℕ, ◌+◌, ◌≤◌, ℤ, length, get_or, drop}
 use Rattle.lists.specs.Lists.{sum}
-use Rattle.refusal.specs.declared.Verdict.TheVariants.{Pass}
+use Rattle.refusal.specs.Questions.{Pass}
 use Rattle.calendar_dates.specs.Dates.{date_of}
 use Rattle.calendar_holidays.specs.Holidays.{holidays_question}
 use Rattle.calendar_period.specs.Period.{days_of}

@@ -13,7 +13,7 @@ ghost use Rattle.call_deliveries.specs.Inside.{period_at, powers_in, differences
 
 use call_open::Opened;
 use carry::Totals;
-use refusal::Verdict;
+use refusal::Refusal;
 
 // What is asked behind the whole span: questions 17, 18, 9, 10 and 12.
 fn behind_span(
@@ -24,25 +24,13 @@ fn behind_span(
     holidays: &[u32],
     yearly: u32,
     room: usize,
-) -> Verdict
+) -> Result<(), Refusal>
     ensures { result ≡ behind_span first last starts.now values holidays.now yearly room }
 {
-    let v = calendar_reading_periods::readings_question(starts.len(), values);
-    let Verdict::Pass = v else {
-        return v;
-    };
-    let v = calendar_reading_periods::first_dates_question(first, last, starts);
-    let Verdict::Pass = v else {
-        return v;
-    };
-    let v = calendar_holidays::holidays_question(holidays);
-    let Verdict::Pass = v else {
-        return v;
-    };
-    let v = call_request::use_question(yearly);
-    let Verdict::Pass = v else {
-        return v;
-    };
+    calendar_reading_periods::readings_question(starts.len(), values)?;
+    calendar_reading_periods::first_dates_question(first, last, starts)?;
+    calendar_holidays::holidays_question(holidays)?;
+    call_request::use_question(yearly)?;
     refusal::room_question(starts.len(), room)
 }
 
@@ -115,16 +103,13 @@ pub fn differences(
     holidays: &[u32],
     yearly: u32,
     out: &mut [i64],
-) -> Verdict
+) -> Result<(), Refusal>
     ensures { Delivers
         (deliveries file.now group first last starts.now metered.now holidays.now yearly out.old)
         result out.new }
 {
-    let opening = match call_open::open_period(file, group, first, last) {
-        Opened::Open(opening) => opening,
-        Opened::Refused(refusal) => return Verdict::Refused(refusal),
-    };
-    let v = behind_span(
+    let opening = call_open::open_period(file, group, first, last)?;
+    behind_span(
         first,
         last,
         starts,
@@ -132,11 +117,8 @@ pub fn differences(
         holidays,
         yearly,
         out.len(),
-    );
-    let Verdict::Pass = v else {
-        return v;
-    };
+    )?;
     let values = file_read::table_at(file, opening.at);
     fill(&values, group, last, starts, metered, holidays, yearly, out);
-    Verdict::Pass
+    Ok(())
 }

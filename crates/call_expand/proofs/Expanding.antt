@@ -1,11 +1,13 @@
 -- What each way through expanding comes to, over a request. Assumes nothing.
+use Rattle.refusal.specs.Questions.{answered}
+use Rattle.std.specs.Prelude.{Ok, Err}
 use mathlib.Core.Path.{◌≡◌, ◌∙◌, ap}
 use mathlib.Core.List.{List}
 use Prim.Native.Nat.{ℕ}
 use lib.ListN.{length}
 use Rattle.refusal.specs.declared.Refusal.{Refusal}
-use Rattle.refusal.specs.declared.Verdict.{Verdict}
-use Rattle.refusal.specs.declared.Verdict.TheVariants.{Pass, Refused}
+use Rattle.refusal.specs.Questions.{Verdict}
+use Rattle.refusal.specs.Questions.{Pass}
 use Rattle.refusal.specs.Questions.{room_question}
 use Rattle.refusal.proofs.Questions.{then-pass, refused-first, room-enough, then-first}
 use Rattle.carry.specs.declared.Totals.{Totals}
@@ -14,34 +16,34 @@ use Rattle.carry.proofs.Carry.{length-figures}
 use Rattle.series.specs.Inside.{Filled}
 use Rattle.call_request.specs.Request.{Request, quarters, series, request_check}
 use Rattle.call_request.proofs.Request.{Sound, sound}
-use Rattle.call_expansion.specs.declared.Expansion.{Expansion}
-use Rattle.call_expansion.specs.Answered.{answered, reported}
+use Rattle.call_expansion.specs.Answered.{Expansion}
+use Rattle.call_expansion.specs.Answered.{reported}
 use Rattle.call_expand.specs.Expanding.{expand_check, totals, expansion, output_after, lent, IsExpanded, Expands}
 
 module _ (q : Request) where
-  refused : {r : Refusal} → expand_check q ≡ Refused r → Expands q (Expansion.Refused r) q.output
+  refused : {r : Refusal} → expand_check q ≡ Err r → Expands q (Err r) q.output
   unfolding expansion output_after
   refused e = record { answers = rw e; reports = rw e; leaves = rw e }
 
   -- by questions 1 to 11
-  pub request-refused : {r : Refusal} → request_check q ≡ Refused r → Expands q (Expansion.Refused r) q.output
+  pub request-refused : {r : Refusal} → request_check q ≡ Err r → Expands q (Err r) q.output
   unfolding expand_check
   request-refused e = refused (refused-first _ e)
 
   -- by question 12
-  pub room-refused : {r : Refusal} → request_check q ≡ Pass → room_question (length (series q)) (length q.output) ≡ Refused r →
-      Expands q (Expansion.Refused r) q.output
+  pub room-refused : {r : Refusal} → request_check q ≡ Pass → room_question (length (series q)) (length q.output) ≡ Err r →
+      Expands q (Err r) q.output
   unfolding expand_check
   room-refused p e = refused (then-pass _ p ∙ e)
 
   -- by none
   pub expanded : {t : Totals} {after : List ℕ} → request_check q ≡ Pass → room_question (length (series q)) (length q.output) ≡ Pass →
-      Filled q.yearly (powers (quarters q)) q.carry q.output t after → Expands q (Expansion.Expanded t) after
+      Filled q.yearly (powers (quarters q)) q.carry q.output t after → Expands q (Ok t) after
   unfolding expand_check expansion output_after series
   expanded {t} {after} p r f =
       let pass : expand_check q ≡ Pass = then-pass (room_question (length (series q)) (length q.output)) p ∙ r in
       let n = length-figures q.yearly (powers (quarters q)) q.carry in
-      let answer : Expansion.Expanded t ≡ expansion q = rw (pass, f.totals, n) in
+      let answer : Ok t ≡ expansion q = rw (pass, f.totals, n) in
       record { answers = answer; reports = ap reported answer; leaves = rw (pass, f.stored, n) }
 
 -- what a call that was not refused is known to be

@@ -1,17 +1,18 @@
 -- Document 01, "Series and carry" and "Expanding has questions 1 to 12": what a call of expanding answers, and what it leaves in the
 -- lent output, accepted and refused.
+use Rattle.refusal.specs.Questions.{answered}
+use Rattle.std.specs.Prelude.{Ok}
 use Rattle.std.specs.Prelude.{◌≡◌, List, ℕ, ◌≤◌, length}
 use Rattle.lists.specs.Lists.{sum}
-use Rattle.refusal.specs.declared.Verdict.{Verdict}
+use Rattle.refusal.specs.Questions.{Verdict}
 use Rattle.refusal.specs.Questions.{◌then◌, room_question, lent_after}
 use Rattle.carry.specs.declared.Totals.{Totals}
 use Rattle.carry.specs.Carry.{last_carry}
 use Rattle.carry.specs.Energy.{powers}
 use Rattle.call_request.specs.Request.{Request, request, quarters, series, request_check}
-use Rattle.call_expansion.specs.declared.Expansion.{Expansion}
-use Rattle.call_expansion.specs.declared.Expansion.TheVariants.{Expanded}
+use Rattle.call_expansion.specs.Answered.{Expansion}
 use Rattle.call_expansion.specs.declared.ExpansionReport.{ExpansionReport}
-use Rattle.call_expansion.specs.Answered.{answered, reported}
+use Rattle.call_expansion.specs.Answered.{reported}
 
 -- questions 1 to 12
 unfoldable pub expand_check : Request → Verdict
@@ -39,7 +40,7 @@ lent q output = request q.file q.group q.first q.last q.holidays q.yearly q.carr
 
 -- expanding, lent an output that is long enough, accepts a request and answers its totals
 abbrev pub IsExpanded : Request → Type 0
-IsExpanded q = (output : List ℕ) → length (series q) ≤ length output → expansion (lent q output) ≡ Expanded (totals q)
+IsExpanded q = (output : List ℕ) → length (series q) ≤ length output → expansion (lent q output) ≡ Ok (totals q)
 
 -- the contract of expanding: what it answered, also in document 01's numbers, and its output afterwards
 pub record Expands (q : Request) (answer : Expansion) (after : List ℕ) : Type 0 where

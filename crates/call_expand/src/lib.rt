@@ -7,7 +7,7 @@ ghost use Rattle.call_expand.specs.Expanding.{Expands};
 
 use call_expansion::Expansion;
 use call_open::Opened;
-use refusal::Verdict;
+use refusal::Refusal;
 
 // Fills the output from its start with the figures of the period's quarter hours and keeps what is beyond; a refusal changes
 // nothing.
@@ -24,16 +24,11 @@ pub fn expand(
     ensures { Expands
         (request file.now group first last holidays.now yearly carry out.old) result out.new }
 {
-    let opening = match call_open::open(file, group, first, last, holidays, yearly, carry) {
-        Opened::Open(opening) => opening,
-        Opened::Refused(refusal) => return Expansion::Refused(refusal),
-    };
+    let opening = call_open::open(file, group, first, last, holidays, yearly, carry)?;
     let day = opening.first;
     let days = opening.days;
-    if let Verdict::Refused(refusal) = call_request::room_question(day, days, out.len()) {
-        return Expansion::Refused(refusal);
-    }
+    call_request::room_question(day, days, out.len())?;
     let values = file_read::table_at(file, opening.at);
     let made = series::expand_days(&values, group, day, days, holidays, yearly, carry, out);
-    Expansion::Expanded(made)
+    Ok(made)
 }

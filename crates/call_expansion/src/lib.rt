@@ -26,7 +26,7 @@ pub struct ExpansionReport {
 }
 
 fn report_totals(t: Totals) -> ExpansionReport
-    ensures { result ≡ reported (Expansion.Expanded t) }
+    ensures { result ≡ reported (Ok t) }
 {
     ExpansionReport {
         number: 0,
@@ -38,11 +38,11 @@ fn report_totals(t: Totals) -> ExpansionReport
 }
 
 fn report_refusal(refusal: Refusal) -> ExpansionReport
-    ensures { result ≡ reported (Expansion.Refused refusal) }
+    ensures { result ≡ reported (Err refusal) }
 {
     ExpansionReport {
-        number: refusal::number_of(refusal),
-        place: refusal::place_of(refusal),
+        number: refusal.number(),
+        place: refusal.place(),
         count: 0,
         total: 0,
         carry: 0,
@@ -54,7 +54,7 @@ pub fn report(answer: Expansion) -> ExpansionReport
     ensures { result ≡ reported answer }
 {
     match answer {
-        Expansion::Expanded(t) => report_totals(t),
-        Expansion::Refused(refusal) => report_refusal(refusal),
+        Ok(t) => report_totals(t),
+        Err(refusal) => report_refusal(refusal),
     }
 }

@@ -1,11 +1,13 @@
 -- Document 02, (a): what the call for a year's holidays answers, and what it leaves in the lent list, accepted and refused.
+use Rattle.refusal.specs.declared.Refusal.{Refusal}
+use Rattle.refusal.specs.Questions.{answered}
+use Rattle.std.specs.Prelude.{Result, Ok, Err}
 use Rattle.std.specs.Prelude.{◌&&◌, List, ℕ, leb, length}
 use Rattle.refusal.specs.declared.Refusal.TheVariants.{BadYear, BadChoice, ShortList}
-use Rattle.refusal.specs.declared.Verdict.{Verdict}
-use Rattle.refusal.specs.declared.Verdict.TheVariants.{Pass, Refused}
+use Rattle.refusal.specs.Questions.{Verdict}
+use Rattle.refusal.specs.Questions.{Pass}
 use Rattle.refusal.specs.Questions.{refusal_number, refusal_place, ask, ◌then◌, lent_after}
 use Rattle.calendar_public_holidays.specs.YearHolidays.{year_holidays}
-use Rattle.call_holidays.specs.declared.HolidaysAnswer.{HolidaysAnswer}
 use Rattle.call_holidays.specs.declared.HolidaysReport.{HolidaysReport}
 
 -- "year outside the span 14"
@@ -25,10 +27,9 @@ unfoldable pub holidays_check : ℕ → ℕ → ℕ → Verdict
 holidays_check year choice room =
     year_question year then choice_question choice then list_question (length (year_holidays year choice)) room
 
--- "give the holiday list and its length": the length where every question passes, else the refusal
-abbrev pub answered : Verdict → ℕ → HolidaysAnswer
-answered Pass count = HolidaysAnswer.Listed count
-answered (Refused r) count = HolidaysAnswer.Refused r
+-- what listing the holidays answers: how many dates were put at the start of the lent list, or the first question that did not pass
+abbrev pub HolidaysAnswer : Type 0
+HolidaysAnswer = Result ℕ Refusal
 
 unfoldable pub holidays_answer : ℕ → ℕ → ℕ → HolidaysAnswer
 holidays_answer year choice room = answered (holidays_check year choice room) (length (year_holidays year choice))
@@ -39,5 +40,5 @@ list_after year choice list = lent_after (holidays_check year choice (length lis
 
 -- the numbers for each case of the answer; "A refusal gives number, place and zeros elsewhere"
 abbrev pub reported : HolidaysAnswer → HolidaysReport
-reported (HolidaysAnswer.Listed count) = record { number = 0; place = 0; length = count }
-reported (HolidaysAnswer.Refused r) = record { number = refusal_number r; place = refusal_place r; length = 0 }
+reported (Ok count) = record { number = 0; place = 0; length = count }
+reported (Err r) = record { number = refusal_number r; place = refusal_place r; length = 0 }

@@ -6,7 +6,7 @@ ghost use Rattle.call_holidays.specs.Holidays.{year_question, choice_question, l
 ghost use Rattle.call_holidays.specs.Inside.{Gives};
 
 use calendar_year_list::MOST_DAYS;
-use refusal::{Refusal, Verdict};
+use refusal::Refusal;
 
 // How many dates were put at the start of the lent list, or the first question that did not pass.
 #[derive(Clone, Copy)]
@@ -25,36 +25,36 @@ pub struct HolidaysReport {
 }
 
 // Question 14.
-fn year_question(year: u32) -> Verdict
+fn year_question(year: u32) -> Result<(), Refusal>
     ensures { result ≡ year_question year }
 {
     if year < 1996 {
-        return Verdict::Refused(Refusal::BadYear);
+        return Err(Refusal::BadYear);
     }
     if 2099 < year {
-        return Verdict::Refused(Refusal::BadYear);
+        return Err(Refusal::BadYear);
     }
-    Verdict::Pass
+    Ok(())
 }
 
 // Question 15.
-fn choice_question(choice: u8) -> Verdict
+fn choice_question(choice: u8) -> Result<(), Refusal>
     ensures { result ≡ choice_question choice }
 {
     if 63 < choice {
-        return Verdict::Refused(Refusal::BadChoice);
+        return Err(Refusal::BadChoice);
     }
-    Verdict::Pass
+    Ok(())
 }
 
 // Question 16, of a lent list with `room` entries for the `needed` ones.
-fn list_question(needed: usize, room: usize) -> Verdict
+fn list_question(needed: usize, room: usize) -> Result<(), Refusal>
     ensures { result ≡ list_question needed room }
 {
     if room < needed {
-        return Verdict::Refused(Refusal::ShortList(needed));
+        return Err(Refusal::ShortList(needed));
     }
-    Verdict::Pass
+    Ok(())
 }
 
 // Fills the first entries of `list` with the dates and keeps those beyond.
@@ -70,53 +70,47 @@ fn fill(dates: &[u32], list: &mut [u32])
 }
 
 // Gives the dates, where the lent list has room for them.
-fn give(dates: &[u32], list: &mut [u32]) -> HolidaysAnswer
+fn give(dates: &[u32], list: &mut [u32]) -> Result<usize, Refusal>
     ensures { Gives dates.now list.old result list.new }
 {
-    if let Verdict::Refused(refusal) = list_question(dates.len(), list.len()) {
-        return HolidaysAnswer::Refused(refusal);
-    }
+    list_question(dates.len(), list.len())?;
     fill(dates, list);
-    HolidaysAnswer::Listed(dates.len())
+    Ok(dates.len())
 }
 
 // Fills the first entries of `list` with the holidays of a year and keeps those beyond; a refusal changes nothing.
-pub fn list_holidays(year: u32, choice: u8, list: &mut [u32]) -> HolidaysAnswer
+pub fn list_holidays(year: u32, choice: u8, list: &mut [u32]) -> Result<usize, Refusal>
     ensures value { result ≡ holidays_answer year choice (length list.old) }
     ensures result_value { reported result ≡ reported (holidays_answer year choice (length list.old)) }
     ensures list_after { list.new ≡ list_after year choice list.old }
 {
-    if let Verdict::Refused(refusal) = year_question(year) {
-        return HolidaysAnswer::Refused(refusal);
-    }
-    if let Verdict::Refused(refusal) = choice_question(choice) {
-        return HolidaysAnswer::Refused(refusal);
-    }
+    year_question(year)?;
+    choice_question(choice)?;
     let mut dates = [0u32; MOST_DAYS];
     let from = calendar_year_list::year_holidays(&mut dates, year, choice);
     give(&dates[from..MOST_DAYS], list)
 }
 
 fn report_refusal(refusal: Refusal) -> HolidaysReport
-    ensures { result ≡ reported (HolidaysAnswer.Refused refusal) }
+    ensures { result ≡ reported (Err refusal) }
 {
     HolidaysReport {
-        number: refusal::number_of(refusal),
-        place: refusal::place_of(refusal),
+        number: refusal.number(),
+        place: refusal.place(),
         length: 0,
     }
 }
 
 // The answer in numbers.
-pub fn report(answer: HolidaysAnswer) -> HolidaysReport
+pub fn report(answer: Result<usize, Refusal>) -> HolidaysReport
     ensures { result ≡ reported answer }
 {
     match answer {
-        HolidaysAnswer::Listed(length) => HolidaysReport {
+        Ok(length) => HolidaysReport {
             number: 0,
             place: 0,
             length,
         },
-        HolidaysAnswer::Refused(refusal) => report_refusal(refusal),
+        Err(refusal) => report_refusal(refusal),
     }
 }

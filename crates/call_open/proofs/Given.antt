@@ -1,4 +1,6 @@
 -- What a request that was opened is known to be, and what the functions below expanding and listing require. Assumes nothing.
+use Rattle.refusal.specs.Questions.{answered}
+use Rattle.std.specs.Prelude.{Ok, Err}
 use mathlib.Core.Path.{◌≡◌, refl, ◌∙◌}
 use mathlib.Core.Bool.{Bool, true, false}
 use mathlib.Core.List.{List}
@@ -9,8 +11,8 @@ use lib.ListN.{length, get_or, get_or-eq_default}
 use borrow.Author.Tests.{ltb-true, ltb-false}
 use Rattle.big_endian.specs.Inside.{words_of}
 use Rattle.refusal.specs.declared.Refusal.{Refusal}
-use Rattle.refusal.specs.declared.Verdict.{Verdict}
-use Rattle.refusal.specs.declared.Verdict.TheVariants.{Pass}
+use Rattle.refusal.specs.Questions.{Verdict}
+use Rattle.refusal.specs.Questions.{Pass}
 use Rattle.refusal.specs.Questions.{room_question}
 use Rattle.calendar_dates.specs.Dates.{date_of}
 use Rattle.calendar_period.specs.Period.{days_of, value_count_of_days}
@@ -25,23 +27,22 @@ use Rattle.series.specs.Series.{quarters_of_days}
 use Rattle.series.specs.Inside.{GroupValues}
 use Rattle.call_request.specs.Request.{Request, days_in, quarters, series, request_check}
 use Rattle.call_request.proofs.Request.{Sound, sound, entries-needed}
-use Rattle.call_open.specs.declared.Opened.{Opened}
 use Rattle.call_open.specs.declared.Opening.{Opening}
-use Rattle.call_open.specs.Inside.{opening, opened_by}
+use Rattle.call_open.specs.Inside.{opening}
 
 -- what an answer tells of the questions asked, and the other way round
-pub opened-request : (v : Verdict) {o given : Opening} → Opened.Open o ≡ opened_by v given → (v ≡ Pass) × (o ≡ given)
-opened-request Pass h = (refl, cc)
-opened-request (Verdict.Refused r) h = let z : ◌≡◌ {A = ℕ} 0 1 = cc in absurd (omega arith)
+pub opened-request : (v : Verdict) {o given : Opening} → Ok o ≡ answered v given → (v ≡ Pass) × (o ≡ given)
+opened-request (Ok _) h = (refl, cc)
+opened-request (Err r) h = let z : ◌≡◌ {A = ℕ} 0 1 = cc in absurd (omega arith)
 
-pub opened-refused : (v : Verdict) (given : Opening) {r : Refusal} → Opened.Refused r ≡ opened_by v given → v ≡ Verdict.Refused r
-opened-refused Pass given h = let z : ◌≡◌ {A = ℕ} 0 1 = cc in absurd (omega arith)
-opened-refused (Verdict.Refused r) given h = cc
+pub opened-refused : (v : Verdict) (given : Opening) {r : Refusal} → Err r ≡ answered v given → v ≡ Err r
+opened-refused (Ok _) given h = let z : ◌≡◌ {A = ℕ} 0 1 = cc in absurd (omega arith)
+opened-refused (Err r) given h = cc
 
-pub answers-request : {v : Verdict} {o given : Opening} → v ≡ Pass → o ≡ given → Opened.Open o ≡ opened_by v given
+pub answers-request : {v : Verdict} {o given : Opening} → v ≡ Pass → o ≡ given → Ok o ≡ answered v given
 answers-request p e = rw (p, e)
 
-pub answers-refused : {v : Verdict} {r : Refusal} (given : Opening) → v ≡ Verdict.Refused r → Opened.Refused r ≡ opened_by v given
+pub answers-refused : {v : Verdict} {r : Refusal} (given : Opening) → v ≡ Err r → Err r ≡ answered v given
 answers-refused given h = rw h
 
 -- a group's values in an accepted file: 864, none above 20,000
@@ -65,7 +66,7 @@ pub record OpenedFor (q : Request) (o : Opening) : Type 0 where
   pub real : RealDays o.first o.days
   pub some : 0 < o.days
 
-pub opened-for : (q : Request) {o : Opening} → Opened.Open o ≡ opened_by (request_check q) (opening q) → OpenedFor q o
+pub opened-for : (q : Request) {o : Opening} → Ok o ≡ answered (request_check q) (opening q) → OpenedFor q o
 unfolding days_of
 opened-for q {o} h =
     let told = opened-request _ h in

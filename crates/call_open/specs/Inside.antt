@@ -1,13 +1,13 @@
 -- What opening a request answers. No definition of document 01.
+use Rattle.std.specs.Prelude.{Ok, Err}
 use Rattle.std.specs.Prelude.{List, ℕ}
-use Rattle.refusal.specs.declared.Verdict.{Verdict}
-use Rattle.refusal.specs.declared.Verdict.TheVariants.{Pass, Refused}
+use Rattle.refusal.specs.Questions.{Verdict}
+use Rattle.refusal.specs.Questions.{Pass}
 use Rattle.calendar_dates.specs.Dates.{date_of}
 use Rattle.calendar_period.specs.Period.{days_of}
 use Rattle.calendar_period.specs.Inside.{calendar_day}
 use Rattle.file_group.specs.Group.{group_offset}
 use Rattle.call_request.specs.Request.{Request}
-use Rattle.call_open.specs.declared.Opened.{Opened}
 use Rattle.call_open.specs.declared.Opening.{Opening}
 
 -- what questions 1 to 8 find: of a file, a group and a period's dates, and of a request
@@ -18,7 +18,3 @@ opening_of file group first last =
 abbrev pub opening : Request → Opening
 opening q = opening_of q.file q.group q.first q.last
 
--- the opening where every question passed, else the refusal
-abbrev pub opened_by : Verdict → Opening → Opened
-opened_by Pass opening = Opened.Open opening
-opened_by (Refused r) opening = Opened.Refused r

@@ -5,11 +5,12 @@ ghost use Rattle.std.specs.Prelude.{◌≡◌, []};
 ghost use Rattle.refusal.specs.Questions.{◌then◌};
 ghost use Rattle.calendar_period.specs.Period.{period_check};
 ghost use Rattle.call_request.specs.Request.{request, ahead_of_period, request_check};
-ghost use Rattle.call_open.specs.Inside.{opening_of, opening, opened_by};
+ghost use Rattle.refusal.specs.Questions.{answered};
+ghost use Rattle.call_open.specs.Inside.{opening_of, opening};
 
 use calendar_period::{CalendarDay, Counted};
 use file_group::Found;
-use refusal::{Refusal, Verdict};
+use refusal::Refusal;
 
 // What the questions found: where the group's code stands in the file, the first day and the number of days.
 #[derive(Clone, Copy)]
@@ -27,21 +28,15 @@ pub enum Opened {
 }
 
 // Questions 1 to 8: the file, the group and the period.
-pub fn open_period(file: &[u8], group: u8, first: u32, last: u32) -> Opened
-    ensures { result ≡ opened_by
+pub fn open_period(file: &[u8], group: u8, first: u32, last: u32) -> Result<Opening, Refusal>
+    ensures { result ≡ answered
         (ahead_of_period file.now group then period_check first last)
         (opening_of file.now group first last) }
 {
-    let at = match file_group::find_checked(file, group) {
-        Found::At(at) => at,
-        Found::Refused(refusal) => return Opened::Refused(refusal),
-    };
-    let period = match calendar_period::count_days(first, last) {
-        Counted::Days(period) => period,
-        Counted::Refused(refusal) => return Opened::Refused(refusal),
-    };
+    let at = file_group::find_checked(file, group)?;
+    let period = calendar_period::count_days(first, last)?;
     let first = period.first;
-    Opened::Open(Opening {
+    Ok(Opening {
         at,
         first,
         days: period.days,
@@ -57,17 +52,12 @@ pub fn open(
     holidays: &[u32],
     yearly: u32,
     carry: u32,
-) -> Opened
-    ensures { result ≡ opened_by
+) -> Result<Opening, Refusal>
+    ensures { result ≡ answered
         (request_check (request file.now group first last holidays.now yearly carry []))
         (opening (request file.now group first last holidays.now yearly carry [])) }
 {
-    let opening = match open_period(file, group, first, last) {
-        Opened::Open(opening) => opening,
-        Opened::Refused(refusal) => return Opened::Refused(refusal),
-    };
-    if let Verdict::Refused(refusal) = call_request::behind_period(holidays, yearly, carry) {
-        return Opened::Refused(refusal);
-    }
-    Opened::Open(opening)
+    let opening = open_period(file, group, first, last)?;
+    call_request::behind_period(holidays, yearly, carry)?;
+    Ok(opening)
 }

@@ -1,4 +1,5 @@
 -- What each way through the call comes to, over a request. Assumes nothing.
+use Rattle.std.specs.Prelude.{Ok, Err}
 use mathlib.Core.Path.{◌≡◌, ◌∙◌, ap}
 use mathlib.Core.List.{List}
 use Prim.Native.Nat.{ℕ, ◌≤◌, ◌<◌}
@@ -8,7 +9,7 @@ use lib.ListN.{length}
 use borrow.Author.Tests.{le-leb, lt-leb, leb-true}
 use Rattle.refusal.specs.declared.Refusal.{Refusal}
 use Rattle.refusal.specs.declared.Refusal.TheVariants.{ShortPage}
-use Rattle.refusal.specs.declared.Verdict.TheVariants.{Pass, Refused}
+use Rattle.refusal.specs.Questions.{Pass}
 use Rattle.refusal.proofs.Questions.{then-pass, refused-first, ask-yes, ask-no, ask-passed}
 use Rattle.calendar_dates.specs.Dates.{date_of}
 use Rattle.calendar_period.specs.declared.CalendarDay.{CalendarDay}
@@ -16,7 +17,7 @@ use Rattle.calendar_period.specs.Inside.{calendar_day}
 use Rattle.file_group.specs.Group.{table_of}
 use Rattle.day_powers.specs.DayQuarters.{basis}
 use Rattle.call_request.specs.Request.{Request, days_in, request_check}
-use Rattle.call_expansion.specs.declared.Expansion.{Expansion}
+use Rattle.call_expansion.specs.Answered.{Expansion}
 use Rattle.call_expansion.specs.Answered.{reported}
 use Rattle.call_rows.specs.Rows.{rows_of}
 use Rattle.call_rows.proofs.Rows.{totals-by-quarters}
@@ -36,7 +37,7 @@ module _ (days room : ℕ) where
   unfolding page_question
   page-enough h = ask-yes (ShortPage (bytes_needed days)) (le-leb (bytes_needed days) room h)
 
-  pub page-short : room < bytes_needed days → page_question days room ≡ Refused (ShortPage (bytes_needed days))
+  pub page-short : room < bytes_needed days → page_question days room ≡ Err (ShortPage (bytes_needed days))
   unfolding page_question
   page-short h = ask-no (ShortPage (bytes_needed days)) (lt-leb (bytes_needed days) room h)
 
@@ -45,18 +46,18 @@ module _ (days room : ℕ) where
   page-passed h = leb-true (bytes_needed days) room (ask-passed _ (ShortPage (bytes_needed days)) h)
 
 module _ (q : Request) where
-  refused : {r : Refusal} → page_check q ≡ Refused r → Prints q (Expansion.Refused r) q.output
+  refused : {r : Refusal} → page_check q ≡ Err r → Prints q (Err r) q.output
   unfolding page_answer page_after
   refused e = record { answers = rw e; reports = rw e; leaves = rw e }
 
   -- by questions 1 to 11
-  pub request-refused : {r : Refusal} → request_check q ≡ Refused r → Prints q (Expansion.Refused r) q.output
+  pub request-refused : {r : Refusal} → request_check q ≡ Err r → Prints q (Err r) q.output
   unfolding page_check
   request-refused e = refused (refused-first _ e)
 
   -- by question 19
-  pub page-refused : {r : Refusal} → request_check q ≡ Pass → page_question (days_in q) (length q.output) ≡ Refused r →
-      Prints q (Expansion.Refused r) q.output
+  pub page-refused : {r : Refusal} → request_check q ≡ Pass → page_question (days_in q) (length q.output) ≡ Err r →
+      Prints q (Err r) q.output
   unfolding page_check
   page-refused p e = refused (then-pass _ p ∙ e)
 
@@ -65,7 +66,7 @@ module _ (q : Request) where
       page_question (days_in q) (length q.output) ≡ Pass →
       values ≡ table_of q.file q.group → day ≡ calendar_day (date_of q.first) → days ≡ days_in q →
       Listed Page (basis values q.group q.holidays) q.yearly q.carry days day.date q.output r middle →
-      Put (last_page_line r.totals) middle r.at s after → Prints q (Expansion.Expanded r.totals) after
+      Put (last_page_line r.totals) middle r.at s after → Prints q (Ok r.totals) after
   unfolding page_check page_answer page_after page_text
   printed {middle = middle} {after} {s = s} {r} p asked v e f l last =
       let room = page-passed (days_in q) (length q.output) asked in
@@ -76,5 +77,5 @@ module _ (q : Request) where
       let pass : page_check q ≡ Pass = then-pass _ p ∙ asked in
       let text : Put (page_text q) q.output 0 s after =
       rw all at (put-put days last (omega (arith, days.behind, lines.short))) in
-      let answer : Expansion.Expanded r.totals ≡ page_answer q = rw (pass, all) in
+      let answer : Ok r.totals ≡ page_answer q = rw (pass, all) in
       record { answers = answer; reports = ap reported answer; leaves = rw pass (rw (zero-add (length (page_text q))) at text.page) }

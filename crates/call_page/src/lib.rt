@@ -8,18 +8,18 @@ ghost use Rattle.call_page.specs.Page.{page_question, Prints};
 
 use call_expansion::Expansion;
 use call_open::Opened;
-use refusal::{Refusal, Verdict};
+use refusal::Refusal;
 use text_listing::Form;
 
 // Question 19, of a page with `room` bytes for the lines of some days and the last one.
-fn page_question(days: u32, room: usize) -> Verdict
+fn page_question(days: u32, room: usize) -> Result<(), Refusal>
     ensures { result ≡ page_question days room }
 {
     let needed = text_page_lines::LINE_LENGTH * (days as usize + 1);
     if room < needed {
-        return Verdict::Refused(Refusal::ShortPage(needed));
+        return Err(Refusal::ShortPage(needed));
     }
-    Verdict::Pass
+    Ok(())
 }
 
 // Fills the page from its start with the lines of the period's days and the last one, and keeps what is beyond; a refusal changes
@@ -37,15 +37,10 @@ pub fn day_page(
     ensures { Prints
         (request file.now group first last holidays.now yearly carry page.old) result page.new }
 {
-    let opening = match call_open::open(file, group, first, last, holidays, yearly, carry) {
-        Opened::Open(opening) => opening,
-        Opened::Refused(refusal) => return Expansion::Refused(refusal),
-    };
+    let opening = call_open::open(file, group, first, last, holidays, yearly, carry)?;
     let day = opening.first;
     let days = opening.days;
-    if let Verdict::Refused(refusal) = page_question(days, page.len()) {
-        return Expansion::Refused(refusal);
-    }
+    page_question(days, page.len())?;
     let values = file_read::table_at(file, opening.at);
     let lines = text_listing::list_days(
         Form::Page,
@@ -60,5 +55,5 @@ pub fn day_page(
     );
     let totals = lines.totals;
     text_page_lines::put_last_line(totals, page, lines.at);
-    Expansion::Expanded(totals)
+    Ok(totals)
 }

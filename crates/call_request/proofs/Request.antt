@@ -3,7 +3,7 @@ use mathlib.Core.Path.{◌≡◌, ◌∙◌}
 use Prim.Native.Nat.{◌≤◌}
 use lib.ListN.{length, length-map}
 use borrow.Author.Tests.{le-leb, leb-true}
-use Rattle.refusal.specs.declared.Verdict.TheVariants.{Pass}
+use Rattle.refusal.specs.Questions.{Pass}
 use Rattle.refusal.specs.declared.Refusal.TheVariants.{BadUse, BadCarry}
 use Rattle.refusal.proofs.Questions.{ask-yes, then-pass, ask-passed, then-first, then_next}
 use Rattle.calendar_dates.specs.Dates.{date_of}

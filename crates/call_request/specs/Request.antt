@@ -2,7 +2,7 @@
 -- asked of it.
 use Rattle.std.specs.Prelude.{List, ℕ, leb}
 use Rattle.refusal.specs.declared.Refusal.TheVariants.{BadUse, BadCarry}
-use Rattle.refusal.specs.declared.Verdict.{Verdict}
+use Rattle.refusal.specs.Questions.{Verdict}
 use Rattle.refusal.specs.Questions.{ask, ◌then◌}
 use Rattle.calendar_dates.specs.Dates.{date_of}
 use Rattle.calendar_holidays.specs.Holidays.{holidays_question}

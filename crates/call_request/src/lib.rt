@@ -8,51 +8,45 @@ ghost use Rattle.calendar_period.specs.Inside.{RealDays};
 ghost use Rattle.call_request.specs.Request.{use_question, carry_question, behind_period};
 
 use calendar_period::CalendarDay;
-use refusal::{Refusal, Verdict};
+use refusal::Refusal;
 
 // Question 10.
-pub fn use_question(yearly: u32) -> Verdict
+pub fn use_question(yearly: u32) -> Result<(), Refusal>
     ensures { result ≡ use_question yearly }
 {
     if carry::LARGEST_USE < yearly {
-        return Verdict::Refused(Refusal::BadUse);
+        return Err(Refusal::BadUse);
     }
-    Verdict::Pass
+    Ok(())
 }
 
 // Question 11.
-fn carry_question(carry: u32) -> Verdict
+fn carry_question(carry: u32) -> Result<(), Refusal>
     ensures { result ≡ carry_question carry }
 {
     if carry::LARGEST_CARRY < carry {
-        return Verdict::Refused(Refusal::BadCarry);
+        return Err(Refusal::BadCarry);
     }
-    Verdict::Pass
+    Ok(())
 }
 
 // Questions 9 to 11.
-pub fn behind_period(holidays: &[u32], yearly: u32, carry: u32) -> Verdict
+pub fn behind_period(holidays: &[u32], yearly: u32, carry: u32) -> Result<(), Refusal>
     ensures { result ≡ behind_period holidays.now yearly carry }
 {
-    let v = calendar_holidays::holidays_question(holidays);
-    let Verdict::Pass = v else {
-        return v;
-    };
-    let v = use_question(yearly);
-    let Verdict::Pass = v else {
-        return v;
-    };
+    calendar_holidays::holidays_question(holidays)?;
+    use_question(yearly)?;
     carry_question(carry)
 }
 
 // Question 12, of an output with `room` entries for the quarter hours of some days. One with 100 for each day is long enough for any
 // days: only where it is shorter are their quarter hours counted.
-pub fn room_question(first: CalendarDay, days: u32, room: usize) -> Verdict
+pub fn room_question(first: CalendarDay, days: u32, room: usize) -> Result<(), Refusal>
     requires { RealDays first days }
     ensures { result ≡ room_question (value_count_of_days days first.date) room }
 {
     if days as usize * 100 <= room {
-        return Verdict::Pass;
+        return Ok(());
     }
     refusal::room_question(calendar_period::value_count_of_days(first, days), room)
 }

@@ -1,7 +1,7 @@
 -- What holds of every accepted request's series.
 use Rattle.std.specs.Prelude.{◌≡◌, ◌*◌, ◌^◌, ◌≤◌, ◌<◌, length}
 use Rattle.lists.specs.Lists.{sum, Each}
-use Rattle.refusal.specs.declared.Verdict.TheVariants.{Pass}
+use Rattle.refusal.specs.Questions.{Pass}
 use Rattle.call_request.specs.Request.{Request, series, request_check}
 
 -- the theorem: "A figure fits 32 bits, a total 64." Proved in proofs/Fits.antt.

@@ -1,5 +1,7 @@
 -- The figures of a request's rows are what expanding answers: they add up to the totals, which one call answers, each day's row is what
 -- a call for that day answers, and a refusal is the call's. Assumes nothing.
+use Rattle.refusal.specs.Questions.{answered}
+use Rattle.std.specs.Prelude.{Err}
 use mathlib.Core.Path.{◌≡◌, sym, ◌∙◌, ap}
 use mathlib.Core.Bool.{true}
 use mathlib.Core.List.{List, [], ◌∷◌, ◌++◌, map-append, append-nil}
@@ -9,7 +11,7 @@ use lib.ListN.{length, take, drop}
 use lib.Seq.{drop-append_seam}
 use Rattle.lists.specs.Lists.{sum}
 use Rattle.refusal.specs.declared.Refusal.{Refusal}
-use Rattle.refusal.specs.declared.Verdict.TheVariants.{Pass, Refused}
+use Rattle.refusal.specs.Questions.{Pass}
 use Rattle.refusal.specs.Questions.{◌then◌, room_question}
 use Rattle.calendar_dates.specs.declared.Date.{Date}
 use Rattle.calendar_dates.specs.Dates.{date_of, number_of, is_date, day_number, days_later}
@@ -26,8 +28,7 @@ use Rattle.series.specs.Series.{quarters_of_days}
 use Rattle.series.proofs.Series.{quarters-add}
 use Rattle.call_request.specs.Request.{Request, days_in, basis_of, quarters, series, request_check}
 use Rattle.call_request.proofs.Request.{Sound, sound, passes, series-length}
-use Rattle.call_expansion.specs.declared.Expansion.{Expansion}
-use Rattle.call_expansion.specs.Answered.{answered}
+use Rattle.call_expansion.specs.Answered.{Expansion}
 use Rattle.call_expand.specs.Expanding.{expand_check, totals, expansion, lent}
 use Rattle.call_expand.proofs.Expanding.{expanded-in}
 use Rattle.series_rows.specs.Rows.{Row, row_of, day_row, rows}
@@ -37,7 +38,7 @@ use Rattle.series_rows.proofs.Joining.{rows-add-up, rows_join}
 use Rattle.call_rows.specs.Rows.{rows_of, date_of_day, carry_after_days, on_day, DayAsExpanded, AsExpanded, RowsAsExpanded}
 
 module _ (q : Request) (output : List ℕ) where
-  refusal : (r : Refusal) → request_check q ≡ Refused r → expansion (lent q output) ≡ Expansion.Refused r
+  refusal : (r : Refusal) → request_check q ≡ Err r → expansion (lent q output) ≡ Err r
   unfolding expansion expand_check ◌then◌
   refusal r h = ap (λ v. answered (v then room_question (length (series (lent q output))) (length output)) (totals (lent q output))) h
 

@@ -1,8 +1,9 @@
 -- Document 01, "Then it expands day by day", and document 02, (e): the rows of a request, whose figures are what expanding answers.
+use Rattle.std.specs.Prelude.{Err}
 use Rattle.std.specs.Prelude.{◌≡◌, List, [], ◌∷◌, map, ℕ, ◌+◌, ◌<◌, length, take, drop}
 use Rattle.lists.specs.Lists.{sum}
 use Rattle.refusal.specs.declared.Refusal.{Refusal}
-use Rattle.refusal.specs.declared.Verdict.TheVariants.{Pass, Refused}
+use Rattle.refusal.specs.Questions.{Pass}
 use Rattle.calendar_dates.specs.declared.Date.{Date}
 use Rattle.calendar_dates.specs.Dates.{date_of, number_of, days_later}
 use Rattle.carry.specs.Carry.{last_carry}
@@ -10,7 +11,7 @@ use Rattle.carry.specs.Energy.{powers}
 use Rattle.day_powers.specs.DayQuarters.{day_quarters}
 use Rattle.series.specs.Series.{quarters_of_days}
 use Rattle.call_request.specs.Request.{Request, request, days_in, basis_of, request_check}
-use Rattle.call_expansion.specs.declared.Expansion.{Expansion}
+use Rattle.call_expansion.specs.Answered.{Expansion}
 use Rattle.call_expand.specs.Expanding.{totals, expansion, lent, IsExpanded}
 use Rattle.series_rows.specs.Rows.{Row, row_of, rows}
 
@@ -50,7 +51,7 @@ pub record AsExpanded (q : Request) : Type 0 where
   -- each day's row is what a call for that day answers
   pub day : (k : ℕ) → request_check q ≡ Pass → k < days_in q → DayAsExpanded q k
   -- a refusal is the one that such a call answers
-  pub refused : (output : List ℕ) (r : Refusal) → request_check q ≡ Refused r → expansion (lent q output) ≡ Expansion.Refused r
+  pub refused : (output : List ℕ) (r : Refusal) → request_check q ≡ Err r → expansion (lent q output) ≡ Err r
 
 unfoldable pub RowsAsExpanded : Type 0
 RowsAsExpanded = (q : Request) → AsExpanded q

@@ -1,4 +1,5 @@
 -- The parts put together. Assumes nothing.
+use Rattle.std.specs.Prelude.{Ok, Err}
 use mathlib.Core.Path.{◌≡◌, refl, sym, ◌∙◌, ap}
 use mathlib.Core.List.{List, [], ◌∷◌}
 use Prim.Native.Nat.{ℕ, ◌*◌}
@@ -7,8 +8,8 @@ use lib.IntN.{ℤ, pos, ◌-ℤ◌}
 use lib.ListN.{length, length-map}
 use borrow.Author.Tests.{eq-eqb}
 use Rattle.lists.specs.Lists.{sum}
-use Rattle.refusal.specs.declared.Verdict.{Verdict}
-use Rattle.refusal.specs.declared.Verdict.TheVariants.{Pass, Refused}
+use Rattle.refusal.specs.Questions.{Verdict}
+use Rattle.refusal.specs.Questions.{Pass}
 use Rattle.refusal.specs.declared.CheckReport.{CheckReport}
 use Rattle.refusal.specs.Questions.{refusal_number, number}
 use Rattle.refusal.proofs.Questions.{then-pass, room-enough, then-first, then_next, number-above-0}
@@ -25,8 +26,8 @@ use Rattle.claim_deliveries.proofs.Periods.{expanded, all}
 
 -- a refusal's number is not 0
 no-refusal : (v : Verdict) → number v ≡ 0 → v ≡ Pass
-no-refusal Pass h = refl
-no-refusal (Refused r) h = let n = number-above-0 r in let z = eq-eqb (refusal_number r) 0 h in cc
+no-refusal (Ok _) h = refl
+no-refusal (Err r) h = let n = number-above-0 r in let z = eq-eqb (refusal_number r) 0 h in cc
 
 asked-of : (d : Deliveries) (periods : List ReadingPeriod) (carry : ℕ) → AskedOf d (carried_through (whole_span d) periods carry)
 unfolding carried_through AskedOf

@@ -1,5 +1,7 @@
 -- The list that the call gives is the year's, which passes question 9, alone and with those of the next years; so nothing that is given it
 -- is refused by that. Assumes nothing.
+use Rattle.refusal.specs.Questions.{answered}
+use Rattle.std.specs.Prelude.{Ok, Err}
 use mathlib.Core.Path.{◌≡◌, refl, sym, subst}
 use mathlib.Core.List.{List}
 use Prim.Native.Nat.{ℕ}
@@ -7,8 +9,8 @@ use lib.Dec.{eqb}
 use lib.ListN.{length, drop}
 use lib.Seq.{take_at}
 use borrow.Author.Tests.{eq-eqb}
-use Rattle.refusal.specs.declared.Verdict.{Verdict}
-use Rattle.refusal.specs.declared.Verdict.TheVariants.{Pass, Refused}
+use Rattle.refusal.specs.Questions.{Verdict}
+use Rattle.refusal.specs.Questions.{Pass}
 use Rattle.refusal.specs.Questions.{refusal_number}
 use Rattle.refusal.proofs.Questions.{then-first, number-above-0}
 use Rattle.calendar_holidays.specs.Holidays.{holidays_question}
@@ -16,7 +18,7 @@ use Rattle.calendar_movable_days.specs.Inside.{InSpan}
 use Rattle.calendar_public_holidays.specs.YearHolidays.{year_holidays, lists_from}
 use Rattle.calendar_public_holidays.proofs.InOrder.{contradiction}
 use Rattle.calendar_public_holidays_laws.proofs.Question.{list-passes, joined-pass}
-use Rattle.call_holidays.specs.Holidays.{holidays_check, answered, holidays_answer, list_after, reported}
+use Rattle.call_holidays.specs.Holidays.{holidays_check, holidays_answer, list_after, reported}
 use Rattle.call_holidays.proofs.Questions.{year-passed}
 use Rattle.call_request.specs.Request.{Request, series, request_check}
 use Rattle.call_expand.specs.Expanding.{expand_check}
@@ -46,8 +48,8 @@ module _ (given : List ℕ) (p : holidays_question given ≡ Pass) where
 
 -- what a reported 0 tells
 accepted : (v : Verdict) (count : ℕ) → (reported (answered v count)).number ≡ 0 → v ≡ Pass
-accepted Pass count h = refl
-accepted (Refused r) count h = contradiction (eqb (refusal_number r) 0) (eqb (refusal_number r) 0) refl (eq-eqb (refusal_number r) 0 h) (number-above-0 r)
+accepted (Ok _) count h = refl
+accepted (Err r) count h = contradiction (eqb (refusal_number r) 0) (eqb (refusal_number r) 0) refl (eq-eqb (refusal_number r) 0 h) (number-above-0 r)
 
 pub list-given : ListGiven
 unfolding ListGiven holidays_check holidays_answer list_after

@@ -1,4 +1,5 @@
--- Questions other than 9 do not refuse by it: one by one, one after the other, and at places one stride apart. Assumes nothing.
+-- Questions other than 9 do not refuse Rattle.std.specs.Prelude.{Ok, Err}
+use by it: one by one, one after the other, and at places one stride apart. Assumes nothing.
 use mathlib.Core.Path.{◌≡◌}
 use mathlib.Core.Bool.{Bool, true, false}
 use mathlib.Core.List.{List}
@@ -6,8 +7,8 @@ use Prim.Native.Nat.{ℕ, zero, suc, ◌+◌}
 use native.Mathlib.Omega.{arith}
 use Rattle.refusal.specs.declared.Refusal.{Refusal}
 use Rattle.refusal.specs.declared.Refusal.TheVariants.{NoMark, WrongVersion, WrongLength, BadCode, BadValue, NoGroup, BadDate, BadPeriod, BadUse, BadCarry, ShortOutput, BadInput}
-use Rattle.refusal.specs.declared.Verdict.{Verdict}
-use Rattle.refusal.specs.declared.Verdict.TheVariants.{Pass, Refused}
+use Rattle.refusal.specs.Questions.{Verdict}
+use Rattle.refusal.specs.Questions.{Pass}
 use Rattle.refusal.specs.Questions.{refusal_number, ask, ◌then◌, ask_each, room_question}
 use Rattle.calendar_period.specs.Period.{date_question, period_question, period_check}
 use Rattle.file_layout.specs.declared.Layout.{Layout}
@@ -29,8 +30,8 @@ one false r n = n
 
 pub both : (v next : Verdict) → NotByNine v → NotByNine next → NotByNine (v then next)
 unfolding ◌then◌
-both Pass next a b = b
-both (Refused r) next a b = a
+both (Ok _) next a b = b
+both (Err r) next a b = a
 
 each : (question : ℕ → Verdict) (step n at : ℕ) → ((k : ℕ) → NotByNine (question k)) → NotByNine (ask_each question step n at)
 unfolding ask_each

@@ -1,8 +1,8 @@
 -- Document 02, (a): "Every list given passes question 9." So expanding, the program and the day enquiry are never refused by it. Proved
 -- in proofs/ListGiven.antt.
 use Rattle.std.specs.Prelude.{◌≡◌, List, ℕ, ◌+◌, ◌≤◌, length, take}
-use Rattle.refusal.specs.declared.Verdict.{Verdict}
-use Rattle.refusal.specs.declared.Verdict.TheVariants.{Pass}
+use Rattle.refusal.specs.Questions.{Verdict}
+use Rattle.refusal.specs.Questions.{Pass}
 use Rattle.refusal.specs.Questions.{number, ◌then◌}
 use Rattle.calendar_holidays.specs.Holidays.{holidays_question}
 use Rattle.calendar_public_holidays.specs.YearHolidays.{year_holidays, lists_from}

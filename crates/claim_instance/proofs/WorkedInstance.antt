@@ -6,11 +6,12 @@ use native.Mathlib.Nat.{add-zero}
 use native.Mathlib.Omega.{arith}
 use lib.ListN.{length, drop}
 use lib.Seq.{get_or-drop, drop-drop}
+use Rattle.refusal.specs.Questions.{answered}
 use Rattle.lists.specs.Lists.{sum, Each, each_from}
 use Rattle.big_endian.specs.BigEndian.{byte_at}
 use Rattle.refusal.specs.declared.Refusal.TheVariants.{BadValue}
-use Rattle.refusal.specs.declared.Verdict.TheVariants.{Pass}
-use Rattle.refusal.specs.declared.Verdict.{Verdict}
+use Rattle.refusal.specs.Questions.{Pass}
+use Rattle.refusal.specs.Questions.{Verdict}
 use Rattle.refusal.specs.Questions.{ask, ◌then◌, ask_each, room_question}
 use Rattle.refusal.proofs.Questions.{ask-yes, then-pass}
 use Rattle.calendar_dates.specs.Dates.{leap_days, month_length, is_date, days_of_months, day_of_year, days_of_years, day_number, weekday_of, next_day}
@@ -27,7 +28,6 @@ use Rattle.day_powers.specs.DayTable.{day_values}
 use Rattle.day_powers.specs.DayQuarters.{day_quarters}
 use Rattle.series.specs.Series.{quarters_of_days}
 use Rattle.call_request.specs.Request.{Request, series, use_question, carry_question, from_period_on}
-use Rattle.call_expansion.specs.Answered.{answered}
 use Rattle.call_expand.specs.Expanding.{expand_check, totals, expansion}
 use Rattle.claim_successive.specs.SuccessiveCalls.{ByContract, accepted, Successive, SuccessiveCalls}
 use Rattle.claim_successive.proofs.SuccessiveCalls.{successive-calls}

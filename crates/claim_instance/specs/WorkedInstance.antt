@@ -1,10 +1,10 @@
 -- Document 01's listing cut in two, with a refused call between: the assumptions of demand 3 can be met, and what comes of it.
+use Rattle.std.specs.Prelude.{Ok, Err}
 use Rattle.std.specs.Prelude.{◌≡◌, List, [], ◌∷◌, ◌++◌, ℕ, zero, suc}
 use Rattle.lists.specs.Lists.{Each}
 use Rattle.refusal.specs.declared.Refusal.TheVariants.{BadCarry}
 use Rattle.file_layout.specs.Header.{mark}
 use Rattle.call_request.specs.Request.{Request, request}
-use Rattle.call_expansion.specs.declared.Expansion.TheVariants.{Expanded, Refused}
 use Rattle.call_expansion.specs.Answered.{reported}
 use Rattle.call_expand.specs.Expanding.{expansion, output_after}
 use Rattle.claim_successive.specs.SuccessiveCalls.{Call, ByContract, accepted, Common, Successive, SameAsWhole}
@@ -44,11 +44,11 @@ common = record { file = listing_file; group = 1; holidays = []; yearly = 1_000 
 -- Proved in proofs/WorkedInstance.antt.
 pub record WorkedInstance : Type 0 where
   -- "2000-03-25 T2 96 2402", "2000-03-26 T3 92 2302"
-  pub on_saturday : expansion saturday ≡ Expanded (record { count = 96; total = 2_402; carry = 16_000 })
-  pub refused_between : expansion between ≡ Refused BadCarry
-  pub on_sunday : expansion sunday ≡ Expanded (record { count = 92; total = 2_302; carry = 28_000 })
+  pub on_saturday : expansion saturday ≡ Ok (record { count = 96; total = 2_402; carry = 16_000 })
+  pub refused_between : expansion between ≡ Err BadCarry
+  pub on_sunday : expansion sunday ≡ Ok (record { count = 92; total = 2_302; carry = 28_000 })
   -- "total 2 188 4704 28000"
-  pub of_both : expansion whole ≡ Expanded (record { count = 188; total = 4_704; carry = 28_000 })
+  pub of_both : expansion whole ≡ Ok (record { count = 188; total = 4_704; carry = 28_000 })
   pub by_contract : Each ByContract calls
   pub successive : Successive common 0 (accepted calls)
   pub same_as_whole : SameAsWhole 0 calls (call_for whole)

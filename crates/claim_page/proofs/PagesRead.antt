@@ -1,5 +1,7 @@
 -- What is read on the page after an accepted call: its lines lie one after the other (proofs/Lines.antt), what is written in a field is
 -- read there (proofs/ReadBack.antt), and a request's rows add up to its totals. Assumes nothing.
+use Rattle.refusal.specs.Questions.{answered}
+use Rattle.std.specs.Prelude.{Ok, Err}
 use mathlib.Core.Path.{◌≡◌, refl, sym, ◌∙◌, ap}
 use mathlib.Core.Bool.{true}
 use mathlib.Core.Logic.{⊎_elim}
@@ -10,8 +12,8 @@ use native.Mathlib.Nat.{add-zero, zero-add, eq-zero-or-pos}
 use lib.ListN.{length, take, drop, replicate, length-append}
 use borrow.Author.Tests.{eq-eqb}
 use Rattle.lists.specs.Lists.{sum, Each, each_from}
-use Rattle.refusal.specs.declared.Verdict.{Verdict}
-use Rattle.refusal.specs.declared.Verdict.TheVariants.{Pass, Refused}
+use Rattle.refusal.specs.Questions.{Verdict}
+use Rattle.refusal.specs.Questions.{Pass}
 use Rattle.refusal.specs.Questions.{refusal_number}
 use Rattle.refusal.proofs.Questions.{then-pass, then-first, refused-first, number-above-0}
 use Rattle.calendar_dates.specs.Dates.{is_date, date_of}
@@ -22,9 +24,8 @@ use Rattle.call_request.specs.Request.{Request, days_in, series, request_check}
 use Rattle.call_request.proofs.Request.{sound}
 use Rattle.call_request_laws.specs.Fits.{LongestSeries, LargestTotal}
 use Rattle.call_request_laws.proofs.Fits.{longest-series, largest-total}
-use Rattle.call_expansion.specs.declared.Expansion.TheVariants.{Expanded}
 use Rattle.call_expansion.specs.declared.ExpansionReport.{ExpansionReport}
-use Rattle.call_expansion.specs.Answered.{answered, reported}
+use Rattle.call_expansion.specs.Answered.{reported}
 use Rattle.call_expand.specs.Expanding.{totals}
 use Rattle.call_rows.specs.Rows.{rows_of, date_of_day, on_day, AsExpanded, RowsAsExpanded}
 use Rattle.call_rows.proofs.Rows.{rows-as-expanded}
@@ -148,7 +149,7 @@ module _ (q : Request) (passed : request_check q ≡ Pass) where
         ∙ sym (read-sum (λ row. row.watt_hours) (watt_hours_on 2 page) (rows_of q) 0 (λ i row e. rw (zero-add i) (row_read i row e).energy-is))
         ∙ ap (λ (n : ℕ). added (each_from (watt_hours_on 2 page) 1 n 0)) as-expanded.days
 
-    page-read : {report : ExpansionReport} → report ≡ reported (Expanded (totals q)) → page ≡ page_text q ++ drop (38 * (days_in q + 1)) q.output →
+    page-read : {report : ExpansionReport} → report ≡ reported (Ok (totals q)) → page ≡ page_text q ++ drop (38 * (days_in q + 1)) q.output →
         PageRead q report page
     page-read e left =
         record {
@@ -180,8 +181,8 @@ module _ (q : Request) (passed : request_check q ≡ Pass) where
 
 -- an accepted call is one whose questions all passed
 no-refusal : (q : Request) (v : Verdict) → (reported (answered v (totals q))).number ≡ 0 → v ≡ Pass
-no-refusal q Pass h = refl
-no-refusal q (Refused r) h = let n = number-above-0 r in let z = eq-eqb (refusal_number r) 0 h in cc
+no-refusal q (Ok _) h = refl
+no-refusal q (Err r) h = let n = number-above-0 r in let z = eq-eqb (refusal_number r) 0 h in cc
 
 accepted : (q : Request) (report : ExpansionReport) (after : List ℕ) → Reports q report after → report.number ≡ 0 → PageRead q report after
 unfolding page_check page_answer page_after

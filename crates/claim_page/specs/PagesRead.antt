@@ -1,13 +1,13 @@
 -- Document 02, (e): what is read on the page after an accepted call.
+use Rattle.std.specs.Prelude.{Ok, Err}
 use Rattle.std.specs.Prelude.{◌≡◌, List, [], ◌∷◌, ◌++◌, ℕ, ◌+◌, ◌*◌, ◌≤◌, ◌<◌, length, drop}
 use Rattle.lists.specs.Lists.{Each, each_from}
 use Rattle.refusal.specs.declared.Refusal.{Refusal}
-use Rattle.refusal.specs.declared.Verdict.TheVariants.{Pass, Refused}
+use Rattle.refusal.specs.Questions.{Pass}
 use Rattle.calendar_dates.specs.Dates.{number_of}
 use Rattle.calendar_days.specs.Days.{day_kind}
 use Rattle.call_request.specs.Request.{Request, days_in, request_check}
-use Rattle.call_expansion.specs.declared.Expansion.{Expansion}
-use Rattle.call_expansion.specs.declared.Expansion.TheVariants.{Expanded}
+use Rattle.call_expansion.specs.Answered.{Expansion}
 use Rattle.call_expansion.specs.declared.ExpansionReport.{ExpansionReport}
 use Rattle.call_expansion.specs.Answered.{reported}
 use Rattle.call_expand.specs.Expanding.{totals, expansion, lent, IsExpanded}
@@ -29,7 +29,7 @@ pub record DayRead (q : Request) (page : List ℕ) (k : ℕ) : Type 0 where
 -- what an accepted call answers, and what its page says
 pub record PageRead (q : Request) (report : ExpansionReport) (page : List ℕ) : Type 0 where
   -- "Expanding's .. answer"
-  pub answer : report ≡ reported (Expanded (totals q))
+  pub answer : report ≡ reported (Ok (totals q))
   pub as_expanded : IsExpanded q
   -- "38 bytes" for each day and for the last line; what was beyond is kept
   pub bytes : length (page_text q) ≡ 38 * (days_in q + 1)
@@ -62,7 +62,7 @@ pub record WidthsEnough (q : Request) : Type 0 where
 -- "Expanding's .. questions, but in place of 12": what 1 to 11 refuse expanding refuses too, with the same answer, and what they pass
 -- is accepted where the page is long enough, else refused by 19, "place = bytes needed"
 pub record AskedAsExpanding (q : Request) : Type 0 where
-  pub refused : (output : List ℕ) (r : Refusal) → request_check q ≡ Refused r → page_answer q ≡ expansion (lent q output)
+  pub refused : (output : List ℕ) (r : Refusal) → request_check q ≡ Err r → page_answer q ≡ expansion (lent q output)
   pub accepted : request_check q ≡ Pass → 38 * (days_in q + 1) ≤ length q.output → page_check q ≡ Pass
   pub short : request_check q ≡ Pass → length q.output < 38 * (days_in q + 1) →
       reported (page_answer q) ≡ record { number = 19; place = 38 * (days_in q + 1); count = 0; total = 0; carry = 0 }

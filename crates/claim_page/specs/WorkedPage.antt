@@ -1,7 +1,8 @@
 -- Document 02, (e): lines of a page and question 19, worked out: those of document 01's listing, every byte.
+use Rattle.std.specs.Prelude.{Err}
 use Rattle.std.specs.Prelude.{◌≡◌, [], ◌∷◌, ℕ}
 use Rattle.refusal.specs.declared.Refusal.TheVariants.{ShortPage}
-use Rattle.refusal.specs.declared.Verdict.TheVariants.{Pass, Refused}
+use Rattle.refusal.specs.Questions.{Pass}
 use Rattle.calendar_dates.specs.declared.Date.{Date}
 use Rattle.calendar_days.specs.Days.{day_kind}
 use Rattle.series_rows.specs.Rows.{row_of}
@@ -20,5 +21,5 @@ pub record WorkedPage : Type 0 where
   -- "total      --    188             4704"
   pub last : last_page_line (record { count = 188; total = 4_704; carry = 28_000 }) ≡ 116 ∷ 111 ∷ 116 ∷ 97 ∷ 108 ∷ 32 ∷ 32 ∷ 32 ∷ 32 ∷ 32 ∷ 32 ∷ 45 ∷ 45 ∷ 32 ∷ 32 ∷ 32 ∷ 32 ∷ 49 ∷ 56 ∷ 56 ∷ 32 ∷ 32 ∷ 32 ∷ 32 ∷ 32 ∷ 32 ∷ 32 ∷ 32 ∷ 32 ∷ 32 ∷ 32 ∷ 32 ∷ 32 ∷ 52 ∷ 55 ∷ 48 ∷ 52 ∷ 10 ∷ []
   -- "place = bytes needed": 114 for two days
-  pub byte_short : page_question 2 113 ≡ Refused (ShortPage 114)
+  pub byte_short : page_question 2 113 ≡ Err (ShortPage 114)
   pub just_enough : page_question 2 114 ≡ Pass

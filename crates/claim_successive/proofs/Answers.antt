@@ -1,5 +1,7 @@
 -- What an accepted call's report and output tell, that a refused one adds nothing, and that calls of `expand` are reported so.
 -- Assumes nothing.
+use Rattle.refusal.specs.Questions.{answered}
+use Rattle.std.specs.Prelude.{Ok, Err}
 use mathlib.Core.Path.{◌≡◌, refl, sym, ◌∙◌, ap}
 use mathlib.Core.Bool.{Bool, true, false, cond}
 use mathlib.Core.List.{[]}
@@ -8,24 +10,24 @@ use native.Mathlib.Omega.{arith}
 use lib.ListN.{length, take}
 use lib.Seq.{take-append_seam}
 use Rattle.lists.specs.Lists.{sum}
-use Rattle.refusal.specs.declared.Verdict.{Verdict}
-use Rattle.refusal.specs.declared.Verdict.TheVariants.{Pass, Refused}
+use Rattle.refusal.specs.Questions.{Verdict}
+use Rattle.refusal.specs.Questions.{Pass}
 use Rattle.refusal.specs.Questions.{lent_after}
 use Rattle.refusal.proofs.Questions.{number-above-0}
 use Rattle.carry.specs.declared.Totals.{Totals}
 use Rattle.carry.specs.Energy.{powers}
 use Rattle.carry.specs.Carry.{last_carry}
 use Rattle.call_request.specs.Request.{quarters, series}
-use Rattle.call_expansion.specs.declared.Expansion.{Expansion}
-use Rattle.call_expansion.specs.Answered.{answered, reported}
+use Rattle.call_expansion.specs.Answered.{Expansion}
+use Rattle.call_expansion.specs.Answered.{reported}
 use Rattle.call_expand.specs.Expanding.{expand_check, totals, expansion, output_after}
 use Rattle.claim_successive.specs.Reports.{is_accepted, is_expanded, ExpandReports}
 use Rattle.claim_successive.specs.SuccessiveCalls.{Call, ByContract, carry_after, figures_of}
 
 -- the report of an answer tells its case
 told : (v : Verdict) (t : Totals) → is_accepted (reported (answered v t)) ≡ is_expanded (answered v t)
-told Pass t = refl
-told (Refused r) t = number-above-0 r
+told (Ok _) t = refl
+told (Err r) t = number-above-0 r
 
 -- an accepted call leaves its request's series, and answers what that comes to
 pub record Took (c : Call) : Type 0 where
@@ -36,8 +38,8 @@ pub record Took (c : Call) : Type 0 where
   pub carry_is : (k : ℕ) → carry_after k c.report ≡ last_carry c.given.yearly (powers (quarters c.given)) c.given.carry
 
 no-refusal : (v : Verdict) (t : Totals) → is_accepted (reported (answered v t)) ≡ true → v ≡ Pass
-no-refusal Pass t h = refl
-no-refusal (Refused r) t h = let n = number-above-0 r in cc
+no-refusal (Ok _) t h = refl
+no-refusal (Err r) t h = let n = number-above-0 r in cc
 
 pub took : (c : Call) → ByContract c → is_accepted c.report ≡ true → Took c
 unfolding expansion output_after
@@ -46,7 +48,7 @@ took c e h = from (no-refusal (expand_check c.given) (totals c.given) (sym (ap i
     from : expand_check c.given ≡ Pass → Took c
     from p =
         let q = c.given in
-        let answer : c.report ≡ reported (Expansion.Expanded (totals q)) = e.answers ∙ ap (λ (v : Verdict). reported (answered v (totals q))) p in
+        let answer : c.report ≡ reported (Ok (totals q)) = e.answers ∙ ap (λ (v : Verdict). reported (answered v (totals q))) p in
         let after : c.after ≡ lent_after Pass (series q) q.output = e.leaves ∙ ap (λ (v : Verdict). lent_after v (series q) q.output) p in
         record {
           passed = p;
@@ -68,11 +70,11 @@ unfolding expansion
 adds-nothing c e h = from (expand_check c.given) e.answers
   where
     from : (v : Verdict) → c.report ≡ reported (answered v (totals c.given)) → Adds0 c
-    from Pass answer =
+    from (Ok _) answer =
         let yes : is_accepted c.report ≡ true = ap is_accepted answer in
         let z : ◌≡◌ {A = ℕ} 0 1 = cc in
         absurd (omega arith)
-    from (Refused r) answer =
+    from (Err r) answer =
         record {
           figures_are = rw answer;
           count_is = rw answer;

@@ -5,9 +5,10 @@ use Prim.Native.Nat.{ℕ, ◌+◌, ◌≤◌, ◌<◌}
 use native.Mathlib.Omega.{arith}
 use lib.ListN.{length}
 use borrow.Author.Tests.{le-leb}
+use Rattle.refusal.specs.Questions.{answered}
 use Rattle.refusal.specs.declared.Refusal.TheVariants.{BadUse, BadCarry}
-use Rattle.refusal.specs.declared.Verdict.{Verdict}
-use Rattle.refusal.specs.declared.Verdict.TheVariants.{Pass}
+use Rattle.refusal.specs.Questions.{Verdict}
+use Rattle.refusal.specs.Questions.{Pass}
 use Rattle.refusal.specs.Questions.{room_question}
 use Rattle.refusal.proofs.Questions.{ask-yes, then-pass, then-first, then_next}
 use Rattle.calendar_dates.specs.declared.Date.{Date}
@@ -20,7 +21,7 @@ use Rattle.calendar_laws.proofs.Periods.{period-days}
 use Rattle.carry.specs.Carry.{largest_use, largest_carry}
 use Rattle.call_request.specs.Request.{Request, series, use_question, carry_question, ahead_of_period, behind_period, request_check}
 use Rattle.call_request.proofs.Request.{Sound, sound}
-use Rattle.call_expansion.specs.Answered.{answered, reported}
+use Rattle.call_expansion.specs.Answered.{reported}
 use Rattle.call_expand.specs.Expanding.{expand_check, totals, expansion}
 use Rattle.claim_successive.specs.Pieces.{PieceOfPeriod, PiecesPass}
 use Rattle.claim_successive.specs.Reports.{is_accepted}

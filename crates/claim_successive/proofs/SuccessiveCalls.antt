@@ -1,12 +1,13 @@
 -- Demand 3: the parts put together. Assumes nothing.
+use Rattle.std.specs.Prelude.{Ok, Err}
 use mathlib.Core.Path.{◌≡◌, refl, sym, ◌∙◌, ap}
 use mathlib.Core.Bool.{true}
 use mathlib.Core.List.{List, [], ◌∷◌}
 use Prim.Native.Nat.{ℕ, ◌≤◌}
 use lib.ListN.{length}
 use Rattle.lists.specs.Lists.{sum, Each}
-use Rattle.refusal.specs.declared.Verdict.{Verdict}
-use Rattle.refusal.specs.declared.Verdict.TheVariants.{Pass, Refused}
+use Rattle.refusal.specs.Questions.{Verdict}
+use Rattle.refusal.specs.Questions.{Pass}
 use Rattle.refusal.specs.Questions.{on_pass}
 use Rattle.carry.specs.Carry.{largest_carry, figures, last_carry}
 use Rattle.carry.specs.Energy.{Quarter, powers}
@@ -63,8 +64,8 @@ unfolding expansion
 as-defined c e = record { answer_is = e.answers; figures_are = by (expand_check c.given) refl }
   where
     by : (v : Verdict) → expand_check c.given ≡ v → figures_of c ≡ on_pass (expand_check c.given) (series c.given) []
-    by Pass h = rw h (took c e (rw (e.answers, h))).figures_are
-    by (Refused r) h = rw (h, e.answers, h)
+    by (Ok _) h = rw h (took c e (rw (e.answers, h))).figures_are
+    by (Err r) h = rw (h, e.answers, h)
 
 all-defined : (calls : List Call) → Each ByContract calls → Each AsDefined calls
 all-defined [] e = tt

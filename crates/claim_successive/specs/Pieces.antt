@@ -1,7 +1,7 @@
 -- A piece of an accepted period passes, for any check that asks the period between other questions.
 use Rattle.std.specs.Prelude.{◌≡◌, ℕ, ◌+◌, ◌<◌}
-use Rattle.refusal.specs.declared.Verdict.{Verdict}
-use Rattle.refusal.specs.declared.Verdict.TheVariants.{Pass}
+use Rattle.refusal.specs.Questions.{Verdict}
+use Rattle.refusal.specs.Questions.{Pass}
 use Rattle.refusal.specs.Questions.{◌then◌}
 use Rattle.calendar_dates.specs.Dates.{date_of, days_later}
 use Rattle.calendar_period.specs.Period.{days_of, period_check}

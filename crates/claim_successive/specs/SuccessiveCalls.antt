@@ -1,15 +1,16 @@
 -- Demand 3, with document 01's "Series and carry": one claim about a list of expanding calls.
+use Rattle.refusal.specs.Questions.{answered}
 use Rattle.std.specs.Prelude.{◌≡◌, true, cond, List, [], ◌∷◌, ◌++◌, ℕ, ◌+◌, ◌≤◌, eqb, length, take, drop}
 use Rattle.lists.specs.Lists.{sum, Each}
-use Rattle.refusal.specs.declared.Verdict.TheVariants.{Pass}
+use Rattle.refusal.specs.Questions.{Pass}
 use Rattle.refusal.specs.Questions.{room_question, on_pass}
 use Rattle.calendar_dates.specs.Dates.{date_of, next_day}
 use Rattle.carry.specs.Energy.{Quarter, powers, exact_sum, Within, household_bound, other_bound}
 use Rattle.carry.specs.Carry.{largest_carry, figures, last_carry}
 use Rattle.call_request.specs.Request.{Request, quarters, series, request_check}
-use Rattle.call_expansion.specs.declared.Expansion.{Expansion}
+use Rattle.call_expansion.specs.Answered.{Expansion}
 use Rattle.call_expansion.specs.declared.ExpansionReport.{ExpansionReport}
-use Rattle.call_expansion.specs.Answered.{answered, reported}
+use Rattle.call_expansion.specs.Answered.{reported}
 use Rattle.call_expand.specs.Expanding.{expand_check, totals, expansion, Reports}
 use Rattle.claim_successive.specs.Pieces.{PieceOfPeriod}
 use Rattle.claim_successive.specs.Reports.{is_accepted, ExpandReports}

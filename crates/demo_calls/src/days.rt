@@ -60,9 +60,9 @@ fn write_answer(rt: &HostRuntime, date: u32, holidays: &[u32]) -> io::Result<()>
     lines::write_date(rt, date)?;
     let answer = call_day::enquire(date, holidays);
     match answer {
-        DayAnswer::Described(day) => write_day(rt, day)?,
-        DayAnswer::Refused(v) => {
-            lines::write_refusal(rt, refusal::number_of(v), refusal::place_of(v))?
+        Ok(day) => write_day(rt, day)?,
+        Err(v) => {
+            lines::write_refusal(rt, v.number(), v.place())?
         }
     }
     println!(rt; "")

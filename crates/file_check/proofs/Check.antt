@@ -7,7 +7,7 @@ use native.Mathlib.Omega.{arith}
 use borrow.Author.Tests.{leb-true}
 use Rattle.lists.proofs.Strides.{stride}
 use Rattle.big_endian.specs.BigEndian.{byte_at, word_at}
-use Rattle.refusal.specs.declared.Verdict.TheVariants.{Pass}
+use Rattle.refusal.specs.Questions.{Pass}
 use Rattle.refusal.specs.declared.Refusal.TheVariants.{BadValue}
 use Rattle.refusal.proofs.Questions.{ask-passed, then-first, then_next, each-passed}
 use Rattle.file_layout.specs.declared.Layout.{Layout}

@@ -1,5 +1,6 @@
 -- Question 4 of one code, as facts: the code at `at` is at most 10, and above the code before it unless it is the first one.
 -- Assumes nothing.
+use Rattle.std.specs.Prelude.{Err}
 use mathlib.Core.Path.{◌≡◌, refl, sym}
 use mathlib.Core.Bool.{Bool, true, false, ◌&&◌, ◌||◌}
 use mathlib.Core.List.{List}
@@ -8,8 +9,8 @@ use lib.Dec.{leb, ltb, eqb}
 use borrow.Author.Tests.{leb-true, ltb-true, eqb-false, le-leb, lt-ltb, ne_eqb}
 use Rattle.big_endian.specs.BigEndian.{byte_at}
 use Rattle.refusal.specs.declared.Refusal.TheVariants.{BadCode}
-use Rattle.refusal.specs.declared.Verdict.{Verdict}
-use Rattle.refusal.specs.declared.Verdict.TheVariants.{Pass, Refused}
+use Rattle.refusal.specs.Questions.{Verdict}
+use Rattle.refusal.specs.Questions.{Pass}
 use Rattle.refusal.specs.Questions.{ask}
 use Rattle.refusal.proofs.Questions.{ask-yes, refuses, ask-passed, both}
 use Rattle.file_layout.specs.declared.Layout.{Layout}
@@ -29,7 +30,7 @@ module _ (before code at : ℕ) where
       let tests = both (leb code 10) _ (ask-passed _ (BadCode at) h) in
       record { bound = leb-true _ _ tests.0; rises = λ later. ltb-true _ _ (rw (ne_eqb at header_length later) at tests.1) }
 
-  pub code-refused : (Rising before code at → ⊥) → Refused (BadCode at) ≡ question
+  pub code-refused : (Rising before code at → ⊥) → Err (BadCode at) ≡ question
   code-refused never = refuses _ (BadCode at) (λ h. never (rising h))
 
   pub code-passes : Rising before code at → Pass ≡ question
@@ -48,7 +49,7 @@ module _ (layout : Layout) (file : List ℕ) (at : ℕ) where
   unfolding code_question
   rising-at h = rising _ _ at h
 
-  pub refused-at : (RisingAt layout file at → ⊥) → Refused (BadCode at) ≡ code_question layout file at
+  pub refused-at : (RisingAt layout file at → ⊥) → Err (BadCode at) ≡ code_question layout file at
   unfolding code_question
   refused-at never = code-refused _ _ at never
 

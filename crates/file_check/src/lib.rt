@@ -8,26 +8,26 @@ ghost use Rattle.file_check.specs.Inside.{CodeAt};
 ghost use Rattle.file_check.specs.Check.{code_question, codes_question, file_check};
 
 use file_layout::{HEADER_LENGTH, Layout};
-use refusal::{Refusal, Verdict};
+use refusal::Refusal;
 
 // Question 4, of the code at `at`.
-fn code_question(layout: Layout, file: &[u8], at: usize) -> Verdict
+fn code_question(layout: Layout, file: &[u8], at: usize) -> Result<(), Refusal>
     requires { CodeAt layout file.now at }
     ensures { result ≡ code_question layout file.now at }
 {
     if 10 < file[at] {
-        return Verdict::Refused(Refusal::BadCode(at));
+        return Err(Refusal::BadCode(at));
     }
     if at != HEADER_LENGTH {
         if file[at] <= file[at - file_layout::profile_length(layout)] {
-            return Verdict::Refused(Refusal::BadCode(at));
+            return Err(Refusal::BadCode(at));
         }
     }
-    Verdict::Pass
+    Ok(())
 }
 
 // Question 4.
-fn codes_question(layout: Layout, file: &[u8]) -> Verdict
+fn codes_question(layout: Layout, file: &[u8]) -> Result<(), Refusal>
     requires { LaidOut layout file.now }
     ensures { result ≡ codes_question layout file.now }
 {
@@ -35,29 +35,20 @@ fn codes_question(layout: Layout, file: &[u8]) -> Verdict
     let mut left = layout.count;
     let mut at = HEADER_LENGTH;
     while 0 < left {
-        let v = code_question(layout, file, at);
-        let Verdict::Pass = v else {
-            return v;
-        };
+        code_question(layout, file, at)?;
         at += step;
         left -= 1;
     }
-    Verdict::Pass
+    Ok(())
 }
 
 // Questions 1 to 5.
-pub fn check_file(file: &[u8]) -> Verdict
+pub fn check_file(file: &[u8]) -> Result<(), Refusal>
     ensures value { result ≡ file_check file.now }
     ensures result_value { reported result ≡ reported (file_check file.now) }
 {
-    let v = file_layout::header_questions(file);
-    let Verdict::Pass = v else {
-        return v;
-    };
+    file_layout::header_questions(file)?;
     let layout = file_layout::layout_of(file);
-    let v = codes_question(layout, file);
-    let Verdict::Pass = v else {
-        return v;
-    };
+    codes_question(layout, file)?;
     file_values::values_question(layout, file)
 }

@@ -8,7 +8,7 @@ use lib.Dec.{eqb}
 use borrow.Author.Tests.{eqb-true, eq-eqb}
 use Rattle.refusal.proofs.Questions.{both}
 use Rattle.file_group.specs.Group.{table_of}
-use Rattle.file_compare.specs.declared.Comparison.TheVariants.{Alike, Different}
+use Rattle.file_compare.specs.declared.Likeness.TheVariants.{Alike, Different}
 use Rattle.file_compare.specs.Comparing.{same, comparison, SameIsEqual, AlikeIsEqual}
 
 same-equal : (a b : List ℕ) → same a b ≡ true → a ≡ b

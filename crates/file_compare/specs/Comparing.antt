@@ -1,12 +1,13 @@
 -- Document 01, "The profile file": what comparing answers, accepted and refused. The theorems are proved in proofs/Same.antt.
+use Rattle.std.specs.Prelude.{Ok, Err}
 use Rattle.std.specs.Prelude.{◌≡◌, Bool, true, false, cond, ◌&&◌, List, [], ◌∷◌, ℕ, eqb}
-use Rattle.refusal.specs.declared.Verdict.{Verdict}
-use Rattle.refusal.specs.declared.Verdict.TheVariants.{Pass, Refused}
+use Rattle.refusal.specs.Questions.{Verdict}
+use Rattle.refusal.specs.Questions.{Pass}
 use Rattle.refusal.specs.Questions.{refusal_number, refusal_place, ◌then◌}
 use Rattle.file_check.specs.Check.{file_check}
 use Rattle.file_group.specs.Group.{group_question, table_of}
-use Rattle.file_compare.specs.declared.Comparison.{Comparison}
-use Rattle.file_compare.specs.declared.Comparison.TheVariants.{Alike, Different}
+use Rattle.file_compare.specs.Comparing.{Comparison}
+use Rattle.file_compare.specs.declared.Likeness.TheVariants.{Alike, Different}
 use Rattle.file_compare.specs.declared.ComparisonReport.{ComparisonReport}
 
 -- Comparing: questions 1 to 6, "with place 0 or 1 in question 6 for the first group missing"
@@ -25,8 +26,8 @@ comparison file first second =
     compared (compare_check file first second) (same (table_of file first) (table_of file second))
   where
     compared : Verdict → Bool → Comparison
-    compared Pass alike = cond alike Alike Different
-    compared (Refused r) alike = Comparison.Refused r
+    compared (Ok _) alike = cond alike Alike Different
+    compared (Err r) alike = Err r
 
 -- "exactly when all 864 values agree": lists that are the same are equal, and equal ones the same
 unfoldable pub SameIsEqual : Type 0
@@ -43,4 +44,4 @@ AlikeIsEqual =
 abbrev pub reported : Comparison → ComparisonReport
 reported Alike = record { number = 0; place = 0; alike = 1 }
 reported Different = record { number = 0; place = 0; alike = 0 }
-reported (Comparison.Refused r) = record { number = refusal_number r; place = refusal_place r; alike = 0 }
+reported (Err r) = record { number = refusal_number r; place = refusal_place r; alike = 0 }

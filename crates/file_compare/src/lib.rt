@@ -43,25 +43,19 @@ fn same_values(a: &[u8], b: &[u8]) -> bool
 }
 
 // Alike exactly when all values of the two groups agree.
-pub fn compare(file: &[u8], first: u8, second: u8) -> Comparison
+pub fn compare(file: &[u8], first: u8, second: u8) -> Result<Likeness, Refusal>
     ensures value { result ≡ comparison file.now first second }
     ensures result_value { reported result ≡ reported (comparison file.now first second) }
 {
-    let a = match file_group::find_checked(file, first) {
-        Found::At(at) => at,
-        Found::Refused(refusal) => return Comparison::Refused(refusal),
-    };
-    let b = match file_group::find(file, second, 1) {
-        Found::At(at) => at,
-        Found::Refused(refusal) => return Comparison::Refused(refusal),
-    };
+    let a = file_group::find_checked(file, first)?;
+    let b = file_group::find(file, second, 1)?;
     if same_values(
         file_group::value_bytes(file, a),
         file_group::value_bytes(file, b),
     ) {
-        Comparison::Alike
+        Ok(Likeness::Alike)
     } else {
-        Comparison::Different
+        Ok(Likeness::Different)
     }
 }
 
@@ -69,27 +63,27 @@ fn report_refusal(refusal: Refusal) -> ComparisonReport
     ensures { result ≡ reported (Comparison.Refused refusal) }
 {
     ComparisonReport {
-        number: refusal::number_of(refusal),
-        place: refusal::place_of(refusal),
+        number: refusal.number(),
+        place: refusal.place(),
         alike: 0,
     }
 }
 
 // The answer in numbers: 1 for alike, 0 for different and on a refusal.
-pub fn report(answer: Comparison) -> ComparisonReport
+pub fn report(answer: Result<Likeness, Refusal>) -> ComparisonReport
     ensures { result ≡ reported answer }
 {
     match answer {
-        Comparison::Alike => ComparisonReport {
+        Ok(Likeness::Alike) => ComparisonReport {
             number: 0,
             place: 0,
             alike: 1,
         },
-        Comparison::Different => ComparisonReport {
+        Ok(Likeness::Different) => ComparisonReport {
             number: 0,
             place: 0,
             alike: 0,
         },
-        Comparison::Refused(refusal) => report_refusal(refusal),
+        Err(refusal) => report_refusal(refusal),
     }
 }

@@ -1,4 +1,6 @@
 -- Where a wanted group stands: what it tells that it was found, and what its table holds. Assumes nothing.
+use Rattle.refusal.specs.Questions.{answered}
+use Rattle.std.specs.Prelude.{Ok, Err}
 use mathlib.Core.Path.{◌≡◌, refl, sym, ◌∙◌, ap}
 use mathlib.Core.Bool.{Bool, true, false, cond}
 use mathlib.Core.List.{List}
@@ -14,18 +16,16 @@ use Rattle.big_endian.specs.Inside.{words_of}
 use Rattle.big_endian.proofs.Words.{words-located}
 use Rattle.refusal.specs.declared.Refusal.{Refusal}
 use Rattle.refusal.specs.declared.Refusal.TheVariants.{NoGroup}
-use Rattle.refusal.specs.declared.Verdict.{Verdict}
-use Rattle.refusal.specs.declared.Verdict.TheVariants.{Pass, Refused}
+use Rattle.refusal.specs.Questions.{Verdict}
+use Rattle.refusal.specs.Questions.{Pass}
 use Rattle.refusal.proofs.Questions.{ask-yes, ask-no, ask-passed, then-first, then_next}
 use Rattle.file_layout.specs.declared.Layout.{Layout}
 use Rattle.file_layout.specs.Header.{header_length, layout_of, profile_length}
 use Rattle.file_layout.specs.Inside.{LaidOut}
 use Rattle.file_check.specs.Check.{file_check}
 use Rattle.file_check.proofs.Check.{accepted, value-bound}
-use Rattle.file_group.specs.declared.Found.{Found}
-use Rattle.file_group.specs.declared.Found.TheVariants.{At}
 use Rattle.file_group.specs.Group.{offset_among, group_offset, group_question, check, values_offset, table_of}
-use Rattle.file_group.specs.Inside.{found_by, verdict_of, value_bytes}
+use Rattle.file_group.specs.Inside.{verdict_of, value_bytes}
 
 -- one turn of the search, by whether the code at `at` is the group's, and its end
 module _ (layout : Layout) (file : List ℕ) (group : ℕ) where
@@ -78,7 +78,7 @@ module _ (file : List ℕ) (group place : ℕ) where
   unfolding group_question
   group-there h = ask-yes (NoGroup place) (lt-ltb _ _ h)
 
-  pub group-missing : length file ≤ group_offset file group → group_question file group place ≡ Refused (NoGroup place)
+  pub group-missing : length file ≤ group_offset file group → group_question file group place ≡ Err (NoGroup place)
   unfolding group_question
   group-missing h = ask-no (NoGroup place) (le-ltb _ _ h)
 
@@ -87,24 +87,24 @@ module _ (file : List ℕ) (group place : ℕ) where
   group-stands h = ltb-true _ _ (ask-passed _ (NoGroup place) h)
 
 -- what an answer tells of the questions asked
-pub found_at : (v : Verdict) {at offset : ℕ} → At at ≡ found_by v offset → (v ≡ Pass) × (at ≡ offset)
-found_at Pass h = (refl, cc)
-found_at (Verdict.Refused r) h = let z : ◌≡◌ {A = ℕ} 0 1 = cc in absurd (omega arith)
+pub found_at : (v : Verdict) {at offset : ℕ} → At at ≡ answered v offset → (v ≡ Pass) × (at ≡ offset)
+found_at (Ok _) h = (refl, cc)
+found_at (Err r) h = let z : ◌≡◌ {A = ℕ} 0 1 = cc in absurd (omega arith)
 
-pub found-refused : (v : Verdict) (offset : ℕ) {r : Refusal} → Found.Refused r ≡ found_by v offset → v ≡ Verdict.Refused r
-found-refused Pass offset h = let z : ◌≡◌ {A = ℕ} 0 1 = cc in absurd (omega arith)
-found-refused (Verdict.Refused r) offset h = cc
+pub found-refused : (v : Verdict) (offset : ℕ) {r : Refusal} → Err r ≡ answered v offset → v ≡ Err r
+found-refused (Ok _) offset h = let z : ◌≡◌ {A = ℕ} 0 1 = cc in absurd (omega arith)
+found-refused (Err r) offset h = cc
 
 -- and the other way round
-pub answers_at : {v : Verdict} {at offset : ℕ} → v ≡ Pass → at ≡ offset → At at ≡ found_by v offset
+pub answers_at : {v : Verdict} {at offset : ℕ} → v ≡ Pass → at ≡ offset → At at ≡ answered v offset
 answers_at p e = rw (p, e)
 
-pub answers-refused : {v : Verdict} {r : Refusal} (offset : ℕ) → v ≡ Verdict.Refused r → Found.Refused r ≡ found_by v offset
+pub answers-refused : {v : Verdict} {r : Refusal} (offset : ℕ) → v ≡ Err r → Err r ≡ answered v offset
 answers-refused offset h = rw h
 
-pub verdict-of-found : (v : Verdict) (offset : ℕ) → verdict_of (found_by v offset) ≡ v
-verdict-of-found Pass offset = refl
-verdict-of-found (Verdict.Refused r) offset = refl
+pub verdict-of-found : (v : Verdict) (offset : ℕ) → verdict_of (answered v offset) ≡ v
+verdict-of-found (Ok _) offset = refl
+verdict-of-found (Err r) offset = refl
 
 -- a group of an accepted file: its profile lies in the file
 pub record Checked (file : List ℕ) (group : ℕ) : Type 0 where
@@ -142,13 +142,13 @@ pub record FoundAt (file : List ℕ) (group at : ℕ) : Type 0 where
   pub place : at ≡ group_offset file group
 
 module _ (file : List ℕ) (group : ℕ) {at : ℕ} where
-  pub found-checked : {found : Found} → found ≡ At at → found ≡ found_by (check file group) (group_offset file group) →
+  pub found-checked : {found : Found} → found ≡ At at → found ≡ answered (check file group) (group_offset file group) →
       (check file group ≡ Pass) × FoundAt file group at
   found-checked e h =
       let told = found_at _ (sym e ∙ h) in
       (told.0, record { checked = check-passed file group told.0; place = told.1 })
 
-  pub found-besides : (place : ℕ) → file_check file ≡ Pass → At at ≡ found_by (group_question file group place) (group_offset file group) → FoundAt file group at
+  pub found-besides : (place : ℕ) → file_check file ≡ Pass → At at ≡ answered (group_question file group place) (group_offset file group) → FoundAt file group at
   found-besides place p h =
       let told = found_at _ h in
       record { checked = checked file group place p told.0; place = told.1 }

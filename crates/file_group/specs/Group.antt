@@ -2,7 +2,7 @@
 use Rattle.std.specs.Prelude.{cond, List, ℕ, zero, suc, ◌+◌, ltb, eqb, length}
 use Rattle.big_endian.specs.BigEndian.{byte_at, words_from}
 use Rattle.refusal.specs.declared.Refusal.TheVariants.{NoGroup}
-use Rattle.refusal.specs.declared.Verdict.{Verdict}
+use Rattle.refusal.specs.Questions.{Verdict}
 use Rattle.refusal.specs.Questions.{ask, ◌then◌}
 use Rattle.file_layout.specs.declared.Layout.{Layout}
 use Rattle.file_layout.specs.Header.{header_length, layout_of, profile_length}

@@ -1,20 +1,15 @@
 -- What the functions of this crate, and `table_at` of `file_read`, promise their callers. No definition of document 01.
+use Rattle.std.specs.Prelude.{Ok, Err}
 use Rattle.std.specs.Prelude.{◌≡◌, List, ℕ, ◌+◌, ◌*◌, take, drop}
 use Rattle.std.specs.Borrow.{Bor}
-use Rattle.refusal.specs.declared.Verdict.{Verdict}
-use Rattle.refusal.specs.declared.Verdict.TheVariants.{Pass, Refused}
+use Rattle.refusal.specs.Questions.{Verdict}
+use Rattle.refusal.specs.Questions.{Pass}
 use Rattle.file_layout.specs.Header.{layout_of}
-use Rattle.file_group.specs.declared.Found.{Found}
-
--- the offset of a group's code where every question passed, else the refusal
-abbrev pub found_by : Verdict → ℕ → Found
-found_by Pass at = Found.At at
-found_by (Refused r) at = Found.Refused r
 
 -- the verdict alone
 abbrev pub verdict_of : Found → Verdict
-verdict_of (Found.At at) = Pass
-verdict_of (Found.Refused r) = Refused r
+verdict_of (Ok at) = Pass
+verdict_of (Err r) = Err r
 
 -- the value bytes of the profile whose code stands at `at`
 abbrev pub value_bytes : List ℕ → ℕ → List ℕ

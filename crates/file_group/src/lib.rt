@@ -6,9 +6,10 @@ ghost use Rattle.refusal.specs.Questions.{reported};
 ghost use Rattle.file_layout.specs.Header.{layout_of, profile_length};
 ghost use Rattle.file_layout.specs.Inside.{LaidOut};
 ghost use Rattle.file_group.specs.Group.{group_offset, group_question, check};
-ghost use Rattle.file_group.specs.Inside.{found_by, verdict_of, ValueBytesOf};
+ghost use Rattle.refusal.specs.Questions.{answered};
+ghost use Rattle.file_group.specs.Inside.{verdict_of, ValueBytesOf};
 
-use refusal::{Refusal, Verdict};
+use refusal::Refusal;
 
 // Where a group's code stands in a file, or the refusal.
 #[derive(Clone, Copy)]
@@ -18,9 +19,9 @@ pub enum Found {
 }
 
 // Question 6: where the group's code stands, in a file of the length that its header says. A refusal names `place`.
-pub fn find(file: &[u8], group: u8, place: usize) -> Found
+pub fn find(file: &[u8], group: u8, place: usize) -> Result<usize, Refusal>
     requires { LaidOut (layout_of file.now) file.now }
-    ensures { result ≡ found_by (group_question file.now group place) (group_offset file.now group) }
+    ensures { result ≡ answered (group_question file.now group place) (group_offset file.now group) }
 {
     let layout = file_layout::layout_of(file);
     let step = file_layout::profile_length(layout);
@@ -28,36 +29,34 @@ pub fn find(file: &[u8], group: u8, place: usize) -> Found
     let mut at = file_layout::HEADER_LENGTH;
     while 0 < left {
         if file[at] == group {
-            return Found::At(at);
+            return Ok(at);
         }
         at += step;
         left -= 1;
     }
-    Found::Refused(Refusal::NoGroup(place))
+    Err(Refusal::NoGroup(place))
 }
 
 // Questions 1 to 6: where the group's code stands, in any file.
-pub fn find_checked(file: &[u8], group: u8) -> Found
-    ensures { result ≡ found_by (check file.now group) (group_offset file.now group) }
+pub fn find_checked(file: &[u8], group: u8) -> Result<usize, Refusal>
+    ensures { result ≡ answered (check file.now group) (group_offset file.now group) }
 {
-    if let Verdict::Refused(refusal) = file_check::check_file(file) {
-        return Found::Refused(refusal);
-    }
+    file_check::check_file(file)?;
     find(file, group, 0)
 }
 
 // The verdict alone.
-pub fn verdict_of(found: Found) -> Verdict
+pub fn verdict_of(found: Result<usize, Refusal>) -> Result<(), Refusal>
     ensures { result ≡ verdict_of found }
 {
     match found {
-        Found::At(_) => Verdict::Pass,
-        Found::Refused(refusal) => Verdict::Refused(refusal),
+        Ok(_) => Ok(()),
+        Err(refusal) => Err(refusal),
     }
 }
 
 // The check beside locating: questions 1 to 6.
-pub fn check(file: &[u8], group: u8) -> Verdict
+pub fn check(file: &[u8], group: u8) -> Result<(), Refusal>
     ensures value { result ≡ check file.now group }
     ensures result_value { reported result ≡ reported (check file.now group) }
 {

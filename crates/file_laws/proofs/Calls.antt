@@ -5,7 +5,7 @@ use Prim.Native.Nat.{ℕ, ◌≤◌, ◌<◌}
 use native.Mathlib.Omega.{arith}
 use lib.ListN.{length, drop, get_or}
 use lib.Seq.{take_at}
-use Rattle.refusal.specs.declared.Verdict.TheVariants.{Pass}
+use Rattle.refusal.specs.Questions.{Pass}
 use Rattle.refusal.proofs.Questions.{then-pass, room-enough}
 use Rattle.file_layout.specs.Header.{layout_of}
 use Rattle.file_group.specs.Group.{check, table_of}

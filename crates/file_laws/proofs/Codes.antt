@@ -10,7 +10,7 @@ use lib.Dec.{leb, ltb, eqb}
 use borrow.Author.Tests.{ltb-true, eq-eqb, ne_eqb}
 use Rattle.big_endian.specs.BigEndian.{byte_at}
 use Rattle.refusal.specs.declared.Refusal.TheVariants.{BadCode}
-use Rattle.refusal.specs.declared.Verdict.TheVariants.{Pass}
+use Rattle.refusal.specs.Questions.{Pass}
 use Rattle.refusal.specs.Questions.{ask_each}
 use Rattle.refusal.proofs.Questions.{ask-passed, then-first, then_next, both}
 use Rattle.file_layout.specs.declared.Layout.{Layout}

@@ -14,7 +14,7 @@ use Rattle.lists.specs.Lists.{each_from}
 use Rattle.lists.proofs.Strides.{length-places, get_or-places}
 use Rattle.big_endian.specs.BigEndian.{byte_at, word_at, words_from, bytes_of}
 use Rattle.refusal.specs.declared.Refusal.TheVariants.{NoMark, WrongVersion, WrongLength}
-use Rattle.refusal.specs.declared.Verdict.TheVariants.{Pass}
+use Rattle.refusal.specs.Questions.{Pass}
 use Rattle.refusal.proofs.Questions.{ask-yes, then-pass, room-enough}
 use Rattle.file_layout.specs.declared.Layout.{Layout}
 use Rattle.file_layout.specs.Header.{layout_of, profile_length, mark_question, version_question, length_question, header_check}

@@ -1,7 +1,7 @@
 -- Demand 2: "A profile file that we write reads back to the same tables, and an accepted file is rewritten to the same bytes.": of the
 -- calls `write` and `read` themselves, by what their contracts say they answer and leave in lent memory. Proved in proofs/Calls.antt.
 use Rattle.std.specs.Prelude.{◌≡◌, List, ◌++◌, ℕ, ◌≤◌, ◌<◌, length, take, drop, get_or}
-use Rattle.refusal.specs.declared.Verdict.TheVariants.{Pass}
+use Rattle.refusal.specs.Questions.{Pass}
 use Rattle.file_check.specs.Check.{file_check}
 use Rattle.file_read.specs.Reading.{read_check, table_after}
 use Rattle.file_written.specs.Written.{written}

@@ -3,7 +3,7 @@
 use Rattle.std.specs.Prelude.{◌≡◌, List, [], ◌++◌, ℕ, zero, suc, ◌+◌, ◌*◌, ◌≤◌, ◌<◌, length, take, drop, get_or}
 use Rattle.lists.specs.Lists.{each_from}
 use Rattle.big_endian.specs.BigEndian.{byte_at, words_from}
-use Rattle.refusal.specs.declared.Verdict.TheVariants.{Pass}
+use Rattle.refusal.specs.Questions.{Pass}
 use Rattle.file_layout.specs.declared.Layout.{Layout}
 use Rattle.file_layout.specs.Header.{header_length, layout_of, profile_length}
 use Rattle.file_check.specs.Check.{file_check}

@@ -1,4 +1,5 @@
 -- What a header that passed questions 1 to 3 tells, by name, and that such a file is small. Assumes nothing.
+use Rattle.std.specs.Prelude.{Err}
 use mathlib.Core.Path.{◌≡◌}
 use mathlib.Core.List.{List}
 use Prim.Native.Nat.{ℕ, ◌*◌, ◌≤◌, ◌<◌}
@@ -7,7 +8,7 @@ use native.Mathlib.Omega.{arith}
 use lib.ListN.{length}
 use borrow.Author.Tests.{leb-true, eqb-true}
 use Rattle.big_endian.specs.BigEndian.{byte_at, word_at}
-use Rattle.refusal.specs.declared.Verdict.TheVariants.{Pass, Refused}
+use Rattle.refusal.specs.Questions.{Pass}
 use Rattle.refusal.specs.declared.Refusal.TheVariants.{NoMark, WrongVersion, WrongLength}
 use Rattle.refusal.proofs.Questions.{refuses, ask-passed, then-first, then_next, both}
 use Rattle.file_layout.specs.declared.Layout.{Layout}
@@ -49,7 +50,7 @@ marked file h =
       letter2 = eqb-true _ _ all.1;
     }
 
-pub no-mark : (file : List ℕ) → (Marked file → ⊥) → Refused NoMark ≡ mark_question file
+pub no-mark : (file : List ℕ) → (Marked file → ⊥) → Err NoMark ≡ mark_question file
 unfolding mark_question
 no-mark file never = refuses _ NoMark (λ h. never (marked file h))
 
@@ -66,7 +67,7 @@ counted layout file h =
     let ends = both _ _ all.0 in
     record { some = leb-true _ _ ends.0; most = leb-true _ _ ends.1; whole = eqb-true _ _ all.1 }
 
-pub wrong-length : (layout : Layout) (file : List ℕ) → (Counted layout file → ⊥) → Refused WrongLength ≡ length_question layout file
+pub wrong-length : (layout : Layout) (file : List ℕ) → (Counted layout file → ⊥) → Err WrongLength ≡ length_question layout file
 unfolding length_question
 wrong-length layout file never = refuses _ WrongLength (λ h. never (counted layout file h))
 

@@ -2,7 +2,7 @@
 use Rattle.std.specs.Prelude.{◌&&◌, List, [], ◌∷◌, ℕ, ◌+◌, ◌*◌, leb, eqb, length}
 use Rattle.big_endian.specs.BigEndian.{byte_at, word_at}
 use Rattle.refusal.specs.declared.Refusal.TheVariants.{NoMark, WrongVersion, WrongLength}
-use Rattle.refusal.specs.declared.Verdict.{Verdict}
+use Rattle.refusal.specs.Questions.{Verdict}
 use Rattle.refusal.specs.Questions.{ask, ◌then◌}
 use Rattle.file_layout.specs.declared.Layout.{Layout}
 

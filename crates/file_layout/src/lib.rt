@@ -5,7 +5,7 @@ ghost use Rattle.std.specs.Prelude.{◌≡◌, ◌≤◌, ◌<◌, length};
 ghost use Rattle.file_layout.specs.Header.{header_length, layout_of, profile_length, mark_question, version_question, length_question, header_check};
 ghost use Rattle.file_layout.specs.Inside.{Sound};
 
-use refusal::{Refusal, Verdict};
+use refusal::Refusal;
 
 // The mark that the reader compares and the writer writes.
 pub const MARK: [u8; 3] = *b"SLP";
@@ -42,63 +42,57 @@ pub fn profile_length(layout: Layout) -> usize
 }
 
 // Question 1.
-fn mark_question(file: &[u8]) -> Verdict
+fn mark_question(file: &[u8]) -> Result<(), Refusal>
     ensures { result ≡ mark_question file.now }
 {
     if file.len() < HEADER_LENGTH {
-        return Verdict::Refused(Refusal::NoMark);
+        return Err(Refusal::NoMark);
     }
     if file[0] != MARK[0] {
-        return Verdict::Refused(Refusal::NoMark);
+        return Err(Refusal::NoMark);
     }
     if file[1] != MARK[1] {
-        return Verdict::Refused(Refusal::NoMark);
+        return Err(Refusal::NoMark);
     }
     if file[2] != MARK[2] {
-        return Verdict::Refused(Refusal::NoMark);
+        return Err(Refusal::NoMark);
     }
-    Verdict::Pass
+    Ok(())
 }
 
 // Question 2.
-fn version_question(file: &[u8]) -> Verdict
+fn version_question(file: &[u8]) -> Result<(), Refusal>
     requires { header_length ≤ length file.now }
     ensures { result ≡ version_question file.now }
 {
     if big_endian::word_at(file, 3) != 1 {
-        return Verdict::Refused(Refusal::WrongVersion);
+        return Err(Refusal::WrongVersion);
     }
-    Verdict::Pass
+    Ok(())
 }
 
 // Question 3.
-fn length_question(layout: Layout, file: &[u8]) -> Verdict
+fn length_question(layout: Layout, file: &[u8]) -> Result<(), Refusal>
     requires { Sound layout }
     ensures { result ≡ length_question layout file.now }
 {
     if layout.count < 1 {
-        return Verdict::Refused(Refusal::WrongLength);
+        return Err(Refusal::WrongLength);
     }
     if 11 < layout.count {
-        return Verdict::Refused(Refusal::WrongLength);
+        return Err(Refusal::WrongLength);
     }
     if file.len() != HEADER_LENGTH + layout.count * profile_length(layout) {
-        return Verdict::Refused(Refusal::WrongLength);
+        return Err(Refusal::WrongLength);
     }
-    Verdict::Pass
+    Ok(())
 }
 
 // Questions 1 to 3.
-pub fn header_questions(file: &[u8]) -> Verdict
+pub fn header_questions(file: &[u8]) -> Result<(), Refusal>
     ensures { result ≡ header_check file.now }
 {
-    let v = mark_question(file);
-    let Verdict::Pass = v else {
-        return v;
-    };
-    let v = version_question(file);
-    let Verdict::Pass = v else {
-        return v;
-    };
+    mark_question(file)?;
+    version_question(file)?;
     length_question(layout_of(file), file)
 }

@@ -1,5 +1,6 @@
 -- What locating answers: the found profile's values, their offset and their length; on a refusal the part of length zero at the
 -- file's start. Assumes nothing.
+use Rattle.std.specs.Prelude.{Err}
 use mathlib.Core.Path.{◌≡◌, sym, ◌∙◌, ap}
 use mathlib.Core.List.{List, []}
 use Prim.Native.Nat.{ℕ, ◌+◌, ◌*◌}
@@ -7,7 +8,7 @@ use native.Mathlib.Nat.{add_comm}
 use lib.ListN.{length}
 use denote.Ref.{Bor}
 use Rattle.refusal.specs.declared.Refusal.{Refusal}
-use Rattle.refusal.specs.declared.Verdict.TheVariants.{Pass, Refused}
+use Rattle.refusal.specs.Questions.{Pass}
 use Rattle.file_layout.specs.Header.{layout_of}
 use Rattle.file_group.specs.Group.{check}
 use Rattle.file_group.specs.Inside.{value_bytes, ValueBytesOf}
@@ -16,10 +17,10 @@ use Rattle.file_locate.specs.declared.LocatedPart.{LocatedPart}
 use Rattle.file_locate.specs.Locating.{located_at, located, Located, located_part}
 
 module _ (file : List ℕ) (group : ℕ) where
-  pub located_at-refused : {r : Refusal} → check file group ≡ Refused r → located_at file group ≡ 0
+  pub located_at-refused : {r : Refusal} → check file group ≡ Err r → located_at file group ≡ 0
   located_at-refused e = rw e
 
-  pub located-refused : {r : Refusal} → check file group ≡ Refused r → located file group ≡ []
+  pub located-refused : {r : Refusal} → check file group ≡ Err r → located file group ≡ []
   located-refused e = rw e
 
   module _ {at : ℕ} (passed : check file group ≡ Pass) (found : FoundAt file group at) where
@@ -30,7 +31,7 @@ module _ (file : List ℕ) (group : ℕ) where
     located-found = rw (passed, found.place)
 
 module _ (file part : Bor (List ℕ)) (group : ℕ) where
-  pub refused-part : {r : Refusal} → check file.now group ≡ Refused r → part.now ≡ [] → part.ref_ptr ≡ (file.ref_ptr.0, 0 + file.ref_ptr.1) → Located file group part
+  pub refused-part : {r : Refusal} → check file.now group ≡ Err r → part.now ≡ [] → part.ref_ptr ≡ (file.ref_ptr.0, 0 + file.ref_ptr.1) → Located file group part
   refused-part e b s =
       let at = located_at-refused file.now group e in
       record {
@@ -52,7 +53,7 @@ same_place : {offset length offset' length' : ℕ} → offset ≡ offset' → le
 same_place h k = rw (h, k)
 
 module _ (file : List ℕ) (group : ℕ) where
-  pub refused-place : {r : Refusal} → check file group ≡ Refused r → placed 0 0 ≡ located_part file group
+  pub refused-place : {r : Refusal} → check file group ≡ Err r → placed 0 0 ≡ located_part file group
   refused-place e = same_place (sym (located_at-refused file group e)) (sym (ap length (located-refused file group e)))
 
   pub found-place : {at before values : ℕ} → check file group ≡ Pass → FoundAt file group at →

@@ -19,7 +19,7 @@ pub fn locate(file: &[u8], group: u8) -> &[u8]
     ensures { Located file.entry group result }
 {
     let nothing = &file[0..0];
-    let Found::At(at) = file_group::find_checked(file, group) else {
+    let Ok(at) = file_group::find_checked(file, group) else {
         return nothing;
     };
     file_group::value_bytes(file, at)
@@ -33,7 +33,7 @@ pub fn located_part(file: &[u8], group: u8) -> LocatedPart
         offset: 0,
         length: 0,
     };
-    let Found::At(at) = file_group::find_checked(file, group) else {
+    let Ok(at) = file_group::find_checked(file, group) else {
         return nothing;
     };
     let layout = file_layout::layout_of(file);

@@ -1,6 +1,6 @@
 -- Document 01, "The profile file": what reading answers and leaves in the lent table, accepted and refused.
 use Rattle.std.specs.Prelude.{List, ℕ, length}
-use Rattle.refusal.specs.declared.Verdict.{Verdict}
+use Rattle.refusal.specs.Questions.{Verdict}
 use Rattle.refusal.specs.Questions.{◌then◌, room_question, lent_after}
 use Rattle.file_layout.specs.Header.{layout_of}
 use Rattle.file_group.specs.Group.{check, table_of}

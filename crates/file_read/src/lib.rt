@@ -10,7 +10,7 @@ ghost use Rattle.file_group.specs.Inside.{value_bytes};
 ghost use Rattle.file_read.specs.Reading.{read_check, table_after};
 
 use file_group::Found;
-use refusal::Verdict;
+use refusal::Refusal;
 
 // Fills the first entries of `table` with the values of `part` and keeps those beyond.
 fn fill(part: &[u8], table: &mut [u16])
@@ -40,19 +40,16 @@ pub fn table_at(file: &[u8], at: usize) -> [u16; 864]
 }
 
 // Fills the first entries of `table` with the group's values and keeps those beyond; a refusal changes nothing.
-pub fn read(file: &[u8], group: u8, table: &mut [u16]) -> Verdict
+pub fn read(file: &[u8], group: u8, table: &mut [u16]) -> Result<(), Refusal>
     ensures value { result ≡ read_check file.now group (length table.old) }
     ensures result_value { reported result ≡ reported (read_check file.now group (length table.old)) }
     ensures table_after { table.new ≡ table_after file.now group table.old }
 {
     let found = file_group::find_checked(file, group);
-    let Found::At(at) = found else {
+    let Ok(at) = found else {
         return file_group::verdict_of(found);
     };
-    let v = refusal::room_question(file_layout::layout_of(file).entries, table.len());
-    let Verdict::Pass = v else {
-        return v;
-    };
+    refusal::room_question(file_layout::layout_of(file).entries, table.len())?;
     fill(file_group::value_bytes(file, at), table);
     v
 }

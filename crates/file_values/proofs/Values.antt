@@ -8,7 +8,7 @@ use native.Mathlib.Nat.{eq-or-lt_of_le}
 use lib.Bits.{bit_or, or_mod, or_add_and, and_le_l, and_le_r}
 use borrow.Author.Tests.{le-leb}
 use Rattle.big_endian.specs.BigEndian.{byte_at, word_at}
-use Rattle.refusal.specs.declared.Verdict.TheVariants.{Pass}
+use Rattle.refusal.specs.Questions.{Pass}
 use Rattle.refusal.specs.declared.Refusal.TheVariants.{BadValue}
 use Rattle.refusal.specs.Questions.{ask_each}
 use Rattle.refusal.proofs.Questions.{ask-yes, each-pass}

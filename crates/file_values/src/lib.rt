@@ -8,17 +8,17 @@ ghost use Rattle.file_values.specs.Values.{value_question, profile_values_questi
 ghost use Rattle.file_values.specs.Inside.{UpperBytes};
 
 use file_layout::{HEADER_LENGTH, Layout};
-use refusal::{Refusal, Verdict};
+use refusal::Refusal;
 
 // Question 5, of the value at `at`.
-fn value_question(file: &[u8], at: usize) -> Verdict
+fn value_question(file: &[u8], at: usize) -> Result<(), Refusal>
     requires { at + 2 ≤ length file.now }
     ensures { result ≡ value_question file.now at }
 {
     if 20_000 < big_endian::word_at(file, at) {
-        return Verdict::Refused(Refusal::BadValue(at));
+        return Err(Refusal::BadValue(at));
     }
-    Verdict::Pass
+    Ok(())
 }
 
 // The upper bytes of some values, from the one at `at` on, joined bit by bit: the answer's lower byte is at least each of them.
@@ -39,29 +39,26 @@ fn upper_bytes(file: &[u8], at: usize, values: usize) -> u16
 }
 
 // Question 5, of the profile at `at`.
-fn profile_values_question(layout: Layout, file: &[u8], at: usize) -> Verdict
+fn profile_values_question(layout: Layout, file: &[u8], at: usize) -> Result<(), Refusal>
     requires { at + profile_length layout ≤ length file.now }
     ensures { result ≡ profile_values_question layout file.now at }
 {
     // 77 × 256 + 255 is below 20,000
     if upper_bytes(file, at + layout.before, layout.entries) % 256 <= 77 {
-        return Verdict::Pass;
+        return Ok(());
     }
     let mut left = layout.entries;
     let mut at = at + layout.before;
     while 0 < left {
-        let v = value_question(file, at);
-        let Verdict::Pass = v else {
-            return v;
-        };
+        value_question(file, at)?;
         at += 2;
         left -= 1;
     }
-    Verdict::Pass
+    Ok(())
 }
 
 // Question 5.
-pub fn values_question(layout: Layout, file: &[u8]) -> Verdict
+pub fn values_question(layout: Layout, file: &[u8]) -> Result<(), Refusal>
     requires { LaidOut layout file.now }
     ensures { result ≡ values_question layout file.now }
 {
@@ -69,12 +66,9 @@ pub fn values_question(layout: Layout, file: &[u8]) -> Verdict
     let mut left = layout.count;
     let mut at = HEADER_LENGTH;
     while 0 < left {
-        let v = profile_values_question(layout, file, at);
-        let Verdict::Pass = v else {
-            return v;
-        };
+        profile_values_question(layout, file, at)?;
         at += step;
         left -= 1;
     }
-    Verdict::Pass
+    Ok(())
 }

@@ -1,4 +1,5 @@
 -- The bytes of values, of profiles and of the file, one behind the other, as loops store them. Assumes nothing.
+use Rattle.std.specs.Prelude.{Err}
 use mathlib.Core.Path.{◌≡◌, refl, ◌∙◌}
 use mathlib.Core.List.{List, [], ◌∷◌, ◌++◌}
 use Prim.Native.Nat.{ℕ, ◌+◌, ◌-◌, ◌*◌, ◌≤◌, ◌<◌}
@@ -8,8 +9,8 @@ use lib.Seq.{sets, drop-drop, length-take-le}
 use Rattle.lists.proofs.Stores.{stored-first}
 use Rattle.lists.proofs.Parts.{drop-next}
 use Rattle.big_endian.specs.BigEndian.{bytes_of}
-use Rattle.refusal.specs.declared.Verdict.{Verdict}
-use Rattle.refusal.specs.declared.Verdict.TheVariants.{Pass, Refused}
+use Rattle.refusal.specs.Questions.{Verdict}
+use Rattle.refusal.specs.Questions.{Pass}
 use Rattle.refusal.specs.Questions.{on_pass}
 use Rattle.refusal.proofs.Questions.{IsRefused, passed-not-refused}
 use Rattle.file_layout.specs.Header.{mark}
@@ -58,7 +59,7 @@ file-stored codes values buffer room eh ea = ea ∙ rw eh (stored-first (written
 -- what the lent memory holds after a refusal, and after all passed
 pub keeps : {A : Type 0} {v w : Verdict} (a b : A) → v ≡ w → IsRefused v → b ≡ on_pass w a b
 keeps {v = Pass} a b e t = passed-not-refused t
-keeps {v = Refused r} a b e t = rw (← e)
+keeps {v = Err r} a b e t = rw (← e)
 
 pub fills : {A : Type 0} {w : Verdict} (a b : A) → w ≡ Pass → a ≡ on_pass w a b
 fills a b e = rw e

@@ -12,7 +12,7 @@ ghost use Rattle.file_write.specs.Buffer.{buffer_after};
 
 use file_layout::{HEADER_LENGTH, MARK};
 use file_written::{PROFILE_LENGTH, PROFILE_VALUES};
-use refusal::Verdict;
+use refusal::Refusal;
 
 // Mark, version 1 and count.
 fn put_header(count: usize, buffer: &mut [u8])
@@ -64,15 +64,12 @@ fn put_profiles(codes: &[u8], values: &[u16], buffer: &mut [u8])
 }
 
 // Fills the first bytes of `buffer` with the file and keeps those beyond; a refusal changes nothing.
-pub fn write(codes: &[u8], values: &[u16], buffer: &mut [u8]) -> Verdict
+pub fn write(codes: &[u8], values: &[u16], buffer: &mut [u8]) -> Result<(), Refusal>
     ensures value { result ≡ write_check codes.now values.now (length buffer.old) }
     ensures result_value { reported result ≡ reported (write_check codes.now values.now (length buffer.old)) }
     ensures buffer_after { buffer.new ≡ buffer_after codes.now values.now buffer.old }
 {
-    let v = file_write_check::write_check(codes, values, buffer.len());
-    let Verdict::Pass = v else {
-        return v;
-    };
+    file_write_check::write_check(codes, values, buffer.len())?;
     put_header(codes.len(), buffer);
     put_profiles(codes, values, buffer);
     v

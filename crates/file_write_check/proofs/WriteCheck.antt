@@ -7,7 +7,7 @@ use native.Mathlib.Omega.{arith}
 use lib.Dec.{leb, ltb, eqb}
 use lib.ListN.{length, get_or}
 use Rattle.big_endian.specs.BigEndian.{byte_at, bytes_of}
-use Rattle.refusal.specs.declared.Verdict.{Verdict}
+use Rattle.refusal.specs.Questions.{Verdict}
 use Rattle.refusal.specs.declared.Refusal.TheVariants.{BadCode}
 use Rattle.refusal.specs.Questions.{ask}
 use Rattle.refusal.proofs.Questions.{Asking}

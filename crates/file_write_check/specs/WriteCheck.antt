@@ -1,7 +1,7 @@
 -- Document 01, "Writing has 3 (1 to 11 codes, 864 values for each), 4, 5 (places as in the file to be written) and 12."
 use Rattle.std.specs.Prelude.{◌&&◌, List, ℕ, ◌*◌, leb, eqb, length}
 use Rattle.refusal.specs.declared.Refusal.TheVariants.{WrongLength}
-use Rattle.refusal.specs.declared.Verdict.{Verdict}
+use Rattle.refusal.specs.Questions.{Verdict}
 use Rattle.refusal.specs.Questions.{ask, ◌then◌, room_question}
 use Rattle.file_layout.specs.Header.{layout_of}
 use Rattle.file_values.specs.Values.{values_question}

@@ -12,42 +12,42 @@ ghost use Rattle.file_write_check.specs.WriteCheck.{amount_question, write_check
 
 use file_layout::HEADER_LENGTH;
 use file_written::{PROFILE_LENGTH, PROFILE_VALUES};
-use refusal::{Refusal, Verdict};
+use refusal::Refusal;
 
 // Question 3.
-fn amount_question(codes: &[u8], values: &[u16]) -> Verdict
+fn amount_question(codes: &[u8], values: &[u16]) -> Result<(), Refusal>
     ensures { result ≡ amount_question codes.now values.now }
 {
     if codes.len() < 1 {
-        return Verdict::Refused(Refusal::WrongLength);
+        return Err(Refusal::WrongLength);
     }
     if 11 < codes.len() {
-        return Verdict::Refused(Refusal::WrongLength);
+        return Err(Refusal::WrongLength);
     }
     if values.len() != codes.len() * PROFILE_VALUES {
-        return Verdict::Refused(Refusal::WrongLength);
+        return Err(Refusal::WrongLength);
     }
-    Verdict::Pass
+    Ok(())
 }
 
 // Question 4, of a code that is to stand at `at`, with the code before it.
-fn code_question(before: u8, code: u8, at: usize) -> Verdict
+fn code_question(before: u8, code: u8, at: usize) -> Result<(), Refusal>
     ensures { result ≡ ask (leb code 10 && (eqb at header_length || ltb before code)) (BadCode at) }
 {
     if 10 < code {
-        return Verdict::Refused(Refusal::BadCode(at));
+        return Err(Refusal::BadCode(at));
     }
     if at == HEADER_LENGTH {
-        return Verdict::Pass;
+        return Ok(());
     }
     if code <= before {
-        return Verdict::Refused(Refusal::BadCode(at));
+        return Err(Refusal::BadCode(at));
     }
-    Verdict::Pass
+    Ok(())
 }
 
 // Question 4, of the file to be written, whatever its values are.
-fn codes_question(codes: &[u8]) -> Verdict
+fn codes_question(codes: &[u8]) -> Result<(), Refusal>
     requires { length codes.now ≤ 11 }
     ensures { (values : List ℕ) → length values ≡ length codes.now * 864 →
         result ≡ codes_question (layout_of (written codes.now values)) (written codes.now values) }
@@ -58,16 +58,13 @@ fn codes_question(codes: &[u8]) -> Verdict
     let mut before: u8 = 0;
     while 0 < left {
         let code = codes[i];
-        let v = code_question(before, code, at);
-        let Verdict::Pass = v else {
-            return v;
-        };
+        code_question(before, code, at)?;
         before = code;
         i += 1;
         at += PROFILE_LENGTH;
         left -= 1;
     }
-    Verdict::Pass
+    Ok(())
 }
 
 // The bytes of a file of `count` profiles.
@@ -79,20 +76,11 @@ fn bytes_needed(count: usize) -> usize
 }
 
 // All of writing's questions.
-pub fn write_check(codes: &[u8], values: &[u16], room: usize) -> Verdict
+pub fn write_check(codes: &[u8], values: &[u16], room: usize) -> Result<(), Refusal>
     ensures { result ≡ write_check codes.now values.now room }
 {
-    let v = amount_question(codes, values);
-    let Verdict::Pass = v else {
-        return v;
-    };
-    let v = codes_question(codes);
-    let Verdict::Pass = v else {
-        return v;
-    };
-    let v = file_write_values::values_question(values, codes.len());
-    let Verdict::Pass = v else {
-        return v;
-    };
+    amount_question(codes, values)?;
+    codes_question(codes)?;
+    file_write_values::values_question(values, codes.len())?;
     refusal::room_question(bytes_needed(codes.len()), room)
 }

@@ -9,7 +9,7 @@ use lib.Seq.{length-take-le}
 use Rattle.lists.proofs.Strides.{get_or-places}
 use Rattle.big_endian.specs.BigEndian.{word_at, words_from, bytes_of}
 use Rattle.refusal.specs.declared.Refusal.TheVariants.{BadValue}
-use Rattle.refusal.specs.declared.Verdict.{Verdict}
+use Rattle.refusal.specs.Questions.{Verdict}
 use Rattle.refusal.specs.Questions.{ask, ask_each}
 use Rattle.refusal.proofs.Questions.{Asking}
 use Rattle.file_layout.specs.Header.{layout_of}

@@ -11,20 +11,20 @@ ghost use Rattle.file_written.specs.Written.{written};
 
 use file_layout::HEADER_LENGTH;
 use file_written::{PROFILE_LENGTH, PROFILE_VALUES};
-use refusal::{Refusal, Verdict};
+use refusal::Refusal;
 
 // Question 5, of a value that is to stand at `at`.
-fn value_question(value: u16, at: usize) -> Verdict
+fn value_question(value: u16, at: usize) -> Result<(), Refusal>
     ensures { result ≡ ask (leb value 20_000) (BadValue at) }
 {
     if 20_000 < value {
-        return Verdict::Refused(Refusal::BadValue(at));
+        return Err(Refusal::BadValue(at));
     }
-    Verdict::Pass
+    Ok(())
 }
 
 // Question 5, of a profile's values, in a file that has them from `at` on.
-fn profile_values_question(values: &[u16], at: usize) -> Verdict
+fn profile_values_question(values: &[u16], at: usize) -> Result<(), Refusal>
     requires { (length values.now ≤ 3456) × (at ≤ 100_000) }
     ensures { (file : List ℕ) → words_from file (length values.now) at ≡ values.now →
         result ≡ ask_each (value_question file) 2 (length values.now) at }
@@ -33,19 +33,16 @@ fn profile_values_question(values: &[u16], at: usize) -> Verdict
     let mut i: usize = 0;
     let mut at = at;
     while 0 < left {
-        let v = value_question(values[i], at);
-        let Verdict::Pass = v else {
-            return v;
-        };
+        value_question(values[i], at)?;
         i += 1;
         at += 2;
         left -= 1;
     }
-    Verdict::Pass
+    Ok(())
 }
 
 // Question 5, of the file to be written, whatever its codes are.
-pub fn values_question(values: &[u16], count: usize) -> Verdict
+pub fn values_question(values: &[u16], count: usize) -> Result<(), Refusal>
     requires { (count ≤ 11) × (length values.now ≡ count * 864) }
     ensures { (codes : List ℕ) → length codes ≡ count →
         result ≡ values_question (layout_of (written codes values.now)) (written codes values.now) }
@@ -55,13 +52,10 @@ pub fn values_question(values: &[u16], count: usize) -> Verdict
     let mut at = HEADER_LENGTH;
     while 0 < left {
         let end = from + PROFILE_VALUES;
-        let v = profile_values_question(&values[from..end], at + 1);
-        let Verdict::Pass = v else {
-            return v;
-        };
+        profile_values_question(&values[from..end], at + 1)?;
         from = end;
         at += PROFILE_LENGTH;
         left -= 1;
     }
-    Verdict::Pass
+    Ok(())
 }

@@ -26,8 +26,8 @@ pub fn put_answer(
         page.old 0 result page.new }
 {
     let opening = match call_open::open(file, group, first, last, holidays, yearly, 0) {
-        Opened::Open(opening) => opening,
-        Opened::Refused(refusal) => return program_refusal::put_refused_line(refusal, page, 0),
+        Ok(opening) => opening,
+        Err(refusal) => return program_refusal::put_refused_line(refusal, page, 0),
     };
     let values = file_read::table_at(file, opening.at);
     let day = opening.first;

@@ -1,5 +1,7 @@
 -- What question 13 tells of an input, and that the table's entries are enough for question 9: the first 401 entries of a list are
 -- refused or accepted as the whole list is, and an accepted list has no more. Assumes nothing.
+use Rattle.refusal.specs.Questions.{answered}
+use Rattle.std.specs.Prelude.{Ok, Err}
 use mathlib.Core.Path.{◌≡◌, refl, ◌∙◌}
 use mathlib.Core.List.{List}
 use Prim.Native.Nat.{ℕ, zero, suc, ◌+◌, ◌-◌, ◌≤◌, ◌<◌, min}
@@ -12,29 +14,28 @@ use Rattle.lists.proofs.Strides.{take_places}
 use Rattle.big_endian.specs.BigEndian.{long_at, longs_from}
 use Rattle.refusal.specs.declared.Refusal.{Refusal}
 use Rattle.refusal.specs.declared.Refusal.TheVariants.{BadInput, BadHoliday}
-use Rattle.refusal.specs.declared.Verdict.{Verdict}
-use Rattle.refusal.specs.declared.Verdict.TheVariants.{Pass, Refused}
+use Rattle.refusal.specs.Questions.{Verdict}
+use Rattle.refusal.specs.Questions.{Pass}
 use Rattle.refusal.specs.Questions.{◌then◌, ask_each}
 use Rattle.refusal.proofs.Questions.{ask-no, ask-passed, each-passed, both}
 use Rattle.calendar_holidays.specs.Holidays.{holiday_question, holidays_question}
 use Rattle.program_input.specs.declared.Head.{Head}
-use Rattle.program_input.specs.declared.Headed.{Headed}
 use Rattle.program_input.specs.Input.{head_length, list_length, input_question, request_in}
-use Rattle.program_input.specs.Inside.{head_of, headed_by, CompleteInput, asked_entries}
+use Rattle.program_input.specs.Inside.{head_of, CompleteInput, asked_entries}
 
 -- what an answer tells of question 13, and the other way round
-pub headed-complete : (v : Verdict) {head given : Head} → Headed.Complete head ≡ headed_by v given → (v ≡ Pass) × (head ≡ given)
-headed-complete Pass h = (refl, cc)
-headed-complete (Verdict.Refused r) h = let z : ◌≡◌ {A = ℕ} 0 1 = cc in absurd (omega arith)
+pub headed-complete : (v : Verdict) {head given : Head} → Ok head ≡ answered v given → (v ≡ Pass) × (head ≡ given)
+headed-complete (Ok _) h = (refl, cc)
+headed-complete (Err r) h = let z : ◌≡◌ {A = ℕ} 0 1 = cc in absurd (omega arith)
 
-pub headed-refused : (v : Verdict) (given : Head) {r : Refusal} → Headed.Refused r ≡ headed_by v given → v ≡ Verdict.Refused r
-headed-refused Pass given h = let z : ◌≡◌ {A = ℕ} 0 1 = cc in absurd (omega arith)
-headed-refused (Verdict.Refused r) given h = cc
+pub headed-refused : (v : Verdict) (given : Head) {r : Refusal} → Err r ≡ answered v given → v ≡ Err r
+headed-refused (Ok _) given h = let z : ◌≡◌ {A = ℕ} 0 1 = cc in absurd (omega arith)
+headed-refused (Err r) given h = cc
 
-pub answers-complete : {v : Verdict} {head given : Head} → v ≡ Pass → head ≡ given → Headed.Complete head ≡ headed_by v given
+pub answers-complete : {v : Verdict} {head given : Head} → v ≡ Pass → head ≡ given → Ok head ≡ answered v given
 answers-complete p e = rw (p, e)
 
-pub answers-refused : {v : Verdict} {r : Refusal} (given : Head) → v ≡ Verdict.Refused r → Headed.Refused r ≡ headed_by v given
+pub answers-refused : {v : Verdict} {r : Refusal} (given : Head) → v ≡ Err r → Err r ≡ answered v given
 answers-refused given h = rw h
 
 pub complete : (input : List ℕ) {head : Head} → input_question input ≡ Pass → head ≡ head_of input → CompleteInput input head.listed
@@ -45,7 +46,7 @@ complete input h e =
     record { small = leb-true _ _ two.0; head = leb-true _ _ two.1; list = leb-true _ _ all.1; length = rw e }
 
 -- "entry index 400 is itself at fault", and so is each behind it
-at-fault : (holidays : List ℕ) (index : ℕ) → 400 ≤ index → holiday_question holidays index ≡ Refused (BadHoliday index)
+at-fault : (holidays : List ℕ) (index : ℕ) → 400 ≤ index → holiday_question holidays index ≡ Err (BadHoliday index)
 unfolding holiday_question
 at-fault holidays index h = ask-no (BadHoliday index) (rw (le-ltb index 400 h))
 

@@ -3,7 +3,7 @@
 use Rattle.std.specs.Prelude.{◌&&◌, List, [], ℕ, ◌+◌, ◌*◌, leb, length, drop}
 use Rattle.big_endian.specs.BigEndian.{byte_at, word_at, long_at, longs_from}
 use Rattle.refusal.specs.declared.Refusal.TheVariants.{BadInput}
-use Rattle.refusal.specs.declared.Verdict.{Verdict}
+use Rattle.refusal.specs.Questions.{Verdict}
 use Rattle.refusal.specs.Questions.{ask}
 use Rattle.call_request.specs.Request.{Request, request}
 

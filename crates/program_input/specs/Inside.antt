@@ -1,10 +1,10 @@
 -- What the functions of this crate require and promise. No definition of document 01.
+use Rattle.std.specs.Prelude.{Ok, Err}
 use Rattle.std.specs.Prelude.{◌≡◌, List, ◌++◌, ℕ, ◌≤◌, min, length, drop}
 use Rattle.big_endian.specs.BigEndian.{byte_at, long_at, longs_from}
-use Rattle.refusal.specs.declared.Verdict.{Verdict}
-use Rattle.refusal.specs.declared.Verdict.TheVariants.{Pass, Refused}
+use Rattle.refusal.specs.Questions.{Verdict}
+use Rattle.refusal.specs.Questions.{Pass}
 use Rattle.program_input.specs.declared.Head.{Head}
-use Rattle.program_input.specs.declared.Headed.{Headed}
 use Rattle.program_input.specs.Input.{head_length, list_length, file_start}
 
 -- the numbers at the start of an input
@@ -17,11 +17,6 @@ head_of input =
       yearly = long_at input 9;
       listed = list_length input;
     }
-
--- the head where question 13 passed, else the refusal
-abbrev pub headed_by : Verdict → Head → Headed
-headed_by Pass head = Headed.Complete head
-headed_by (Refused r) head = Headed.Refused r
 
 -- question 13 passed, and the list's length is known
 pub record CompleteInput (input : List ℕ) (listed : ℕ) : Type 0 where

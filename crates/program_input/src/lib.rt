@@ -3,7 +3,8 @@
 
 ghost use Rattle.std.specs.Prelude.{◌≡◌, ◌≤◌, ◌<◌, length, drop};
 ghost use Rattle.program_input.specs.Input.{head_length, file_start, input_question};
-ghost use Rattle.program_input.specs.Inside.{head_of, headed_by, CompleteInput, ListRead};
+ghost use Rattle.refusal.specs.Questions.{answered};
+ghost use Rattle.program_input.specs.Inside.{head_of, CompleteInput, ListRead};
 
 use refusal::Refusal;
 
@@ -44,20 +45,20 @@ fn head_of(input: &[u8]) -> Head
 }
 
 // Question 13.
-pub fn head_in(input: &[u8]) -> Headed
-    ensures { result ≡ headed_by (input_question input.now) (head_of input.now) }
+pub fn head_in(input: &[u8]) -> Result<Head, Refusal>
+    ensures { result ≡ answered (input_question input.now) (head_of input.now) }
 {
     if 65_536 < input.len() {
-        return Headed::Refused(Refusal::BadInput);
+        return Err(Refusal::BadInput);
     }
     if input.len() < HEAD_LENGTH {
-        return Headed::Refused(Refusal::BadInput);
+        return Err(Refusal::BadInput);
     }
     let head = head_of(input);
     if input.len() < HEAD_LENGTH + head.listed * 4 {
-        return Headed::Refused(Refusal::BadInput);
+        return Err(Refusal::BadInput);
     }
-    Headed::Complete(head)
+    Ok(head)
 }
 
 // Fills the first places of `list` with the input's list, as many as question 9 can ask about, and answers how many.

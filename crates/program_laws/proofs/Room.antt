@@ -1,12 +1,14 @@
 -- 65,536 bytes are enough for what is printed: a line a day of at most 39, 1,461 days, and a last line of at most 90; or the line
 -- of a refusal. Assumes nothing.
+use Rattle.refusal.specs.Questions.{answered}
+use Rattle.std.specs.Prelude.{Ok, Err}
 use mathlib.Core.Path.{◌≡◌, refl, sym, ◌∙◌}
 use mathlib.Core.List.{List}
 use Prim.Native.Nat.{ℕ, ◌≤◌}
 use native.Mathlib.Omega.{arith}
 use lib.ListN.{length, length-append}
-use Rattle.refusal.specs.declared.Verdict.{Verdict}
-use Rattle.refusal.specs.declared.Verdict.TheVariants.{Pass, Refused}
+use Rattle.refusal.specs.Questions.{Verdict}
+use Rattle.refusal.specs.Questions.{Pass}
 use Rattle.refusal.specs.Questions.{refusal_number, refusal_place, ◌then◌}
 use Rattle.refusal.proofs.Questions.{then_next, room-passed}
 use Rattle.calendar_dates.specs.Dates.{date_of}
@@ -26,9 +28,8 @@ use Rattle.program_refusal.specs.Refused.{refused_line}
 use Rattle.program_answer.specs.Accepted.{page_length}
 use Rattle.program_answer.specs.Answer.{lines_for}
 use Rattle.program_text.specs.Printed.{printed}
-use Rattle.program_response.specs.declared.Response.{Response}
-use Rattle.program_response.specs.declared.Response.TheVariants.{Written}
-use Rattle.program_response.specs.Responding.{response_check, answered, response_to}
+use Rattle.program_response.specs.Responding.{Response}
+use Rattle.program_response.specs.Responding.{response_check, response_to}
 use Rattle.program_laws.specs.Room.{EnoughRoom}
 
 values-of-table : (q : Request) → length (table_of q.file q.group) ≡ 864
@@ -37,11 +38,11 @@ values-of-table q = table-length q.file q.group
 
 lines-room : (q : Request) (v : Verdict) → (v ≡ Pass → request_check q ≡ Pass) → length (lines_for v q) ≤ page_length
 unfolding lines_for refused_line
-lines-room q Pass h =
+lines-room q (Ok _) h =
     let days = (sound q (h refl)).period.short in
     let lines = lines-short (basis_of q) q.yearly (days_in q) (date_of q.first) q.carry (values-of-table q) in
     omega (arith, lines, days, last-line-short (days_in q) (totals q), length-append (line_after_line day_line q.holidays (rows_of q)) (last_line (days_in q) (totals q)))
-lines-room q (Refused r) h = simp length-append (omega (arith, decimal-most (refusal_number r), decimal-most (refusal_place r)))
+lines-room q (Err r) h = simp length-append (omega (arith, decimal-most (refusal_number r), decimal-most (refusal_place r)))
 
 pub enough-room : EnoughRoom
 unfolding EnoughRoom printed
@@ -54,5 +55,5 @@ pub inside : (input page : List ℕ) {answer : Response} {n : ℕ} → answer �
 inside input page e w = from (response_check input (length page)) refl (sym w ∙ e)
   where
     from : {n : ℕ} (v : Verdict) → response_check input (length page) ≡ v → Written n ≡ answered v (length (printed input)) → n ≤ length page
-    from {n} Pass p h = let same : n ≡ length (printed input) = cc in omega (arith, room-passed _ _ p)
-    from {n} (Refused r) p h = let z : ◌≡◌ {A = ℕ} 0 1 = cc in absurd (omega arith)
+    from {n} (Ok _) p h = let same : n ≡ length (printed input) = cc in omega (arith, room-passed _ _ p)
+    from {n} (Err r) p h = let z : ◌≡◌ {A = ℕ} 0 1 = cc in absurd (omega arith)

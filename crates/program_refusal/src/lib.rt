@@ -13,7 +13,7 @@ pub fn put_refused_line(refusal: Refusal, page: &mut [u8], at: usize) -> usize
     ensures { Put (refused_line refusal) page.old at result page.new }
 {
     let at = text::put_word(b"refused", page, at);
-    let at = text_fields::put_field(refusal::number_of(refusal) as u64, page, at);
-    let at = text_fields::put_field(refusal::place_of(refusal) as u64, page, at);
+    let at = text_fields::put_field(refusal.number() as u64, page, at);
+    let at = text_fields::put_field(refusal.place() as u64, page, at);
     text::put_byte(text::LINE_FEED, page, at)
 }

@@ -1,4 +1,5 @@
 -- The answer and the page, by whether the text has room. Assumes nothing.
+use Rattle.std.specs.Prelude.{Ok, Err}
 use mathlib.Core.Path.{◌≡◌, refl, sym, ◌∙◌, ap}
 use mathlib.Core.List.{List}
 use Prim.Native.Nat.{ℕ, ◌+◌, ◌-◌, ◌≤◌}
@@ -7,19 +8,19 @@ use native.Mathlib.Omega.{arith}
 use lib.ListN.{length, take, drop, length-append, length-drop}
 use lib.Seq.{take_at}
 use Rattle.refusal.specs.declared.Refusal.{Refusal}
-use Rattle.refusal.specs.declared.Verdict.TheVariants.{Pass, Refused}
+use Rattle.refusal.specs.Questions.{Pass}
 use Rattle.refusal.specs.Questions.{room_question}
 use Rattle.text.specs.Inside.{Put}
 use Rattle.program_text.specs.Printed.{printed}
-use Rattle.program_response.specs.declared.Response.{Response}
+use Rattle.program_response.specs.Responding.{Response}
 use Rattle.program_response.specs.Responding.{response_to, page_after, reported}
 use Rattle.program_response.specs.Inside.{Answers}
 
 module _ (text before : List ℕ) where
-  pub no_room : {r : Refusal} → room_question (length text) (length before) ≡ Refused r → Answers text before (Response.Refused r) before
+  pub no_room : {r : Refusal} → room_question (length text) (length before) ≡ Err r → Answers text before (Err r) before
   no_room e = record { answer = rw e; page = rw e }
 
-  pub put : {r : ℕ} {after : List ℕ} → room_question (length text) (length before) ≡ Pass → Put text before 0 r after → Answers text before (Response.Written r) after
+  pub put : {r : ℕ} {after : List ℕ} → room_question (length text) (length before) ≡ Pass → Put text before 0 r after → Answers text before (Ok r) after
   put e p =
       let all : _ ≡ length text = p.behind ∙ zero-add _ in
       record { answer = rw (e, all); page = p.page ∙ rw (e, zero-add) }

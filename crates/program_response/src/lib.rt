@@ -5,7 +5,7 @@ ghost use Rattle.std.specs.Prelude.{◌≡◌};
 ghost use Rattle.program_response.specs.Responding.{response_to, page_after, reported};
 ghost use Rattle.program_response.specs.Inside.{Answers};
 
-use refusal::{Refusal, Verdict};
+use refusal::Refusal;
 
 // The room that is enough for every input.
 pub const PAGE_LENGTH: usize = 65_536;
@@ -27,17 +27,15 @@ pub struct ResponseReport {
 }
 
 // Puts lines at the start of the page, where it has room for them, and keeps what is beyond.
-fn put_lines(lines: &[u8], page: &mut [u8]) -> Response
+fn put_lines(lines: &[u8], page: &mut [u8]) -> Result<usize, Refusal>
     ensures { Answers lines.now page.old result page.new }
 {
-    if let Verdict::Refused(refusal) = refusal::room_question(lines.len(), page.len()) {
-        return Response::Refused(refusal);
-    }
-    Response::Written(text::put_word(lines, page, 0))
+    refusal::room_question(lines.len(), page.len())?;
+    Ok(text::put_word(lines, page, 0))
 }
 
 // Puts what the program prints for an input at the start of the page, where it has room for it, and keeps what is beyond.
-pub fn respond(input: &[u8], page: &mut [u8]) -> Response
+pub fn respond(input: &[u8], page: &mut [u8]) -> Result<usize, Refusal>
     ensures value { result ≡ response_to input.now page.old }
     ensures result_value { reported result ≡ reported (response_to input.now page.old) }
     ensures page_after { page.new ≡ page_after input.now page.old }
@@ -48,25 +46,25 @@ pub fn respond(input: &[u8], page: &mut [u8]) -> Response
 }
 
 fn report_refusal(refusal: Refusal) -> ResponseReport
-    ensures { result ≡ reported (Response.Refused refusal) }
+    ensures { result ≡ reported (Err refusal) }
 {
     ResponseReport {
-        number: refusal::number_of(refusal),
-        place: refusal::place_of(refusal),
+        number: refusal.number(),
+        place: refusal.place(),
         length: 0,
     }
 }
 
 // The answer in numbers.
-pub fn report(answer: Response) -> ResponseReport
+pub fn report(answer: Result<usize, Refusal>) -> ResponseReport
     ensures { result ≡ reported answer }
 {
     match answer {
-        Response::Written(length) => ResponseReport {
+        Ok(length) => ResponseReport {
             number: 0,
             place: 0,
             length,
         },
-        Response::Refused(refusal) => report_refusal(refusal),
+        Err(refusal) => report_refusal(refusal),
     }
 }

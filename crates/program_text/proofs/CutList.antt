@@ -1,11 +1,12 @@
 -- The lines put for a request whose list is cut are those of the whole list. Assumes nothing.
+use Rattle.std.specs.Prelude.{Ok, Err}
 use mathlib.Core.Path.{◌≡◌, refl}
 use mathlib.Core.List.{List, []}
 use Prim.Native.Nat.{ℕ}
 use lib.ListN.{drop}
 use Rattle.big_endian.specs.BigEndian.{longs_from}
-use Rattle.refusal.specs.declared.Verdict.{Verdict}
-use Rattle.refusal.specs.declared.Verdict.TheVariants.{Pass, Refused}
+use Rattle.refusal.specs.Questions.{Verdict}
+use Rattle.refusal.specs.Questions.{Pass}
 use Rattle.call_request.specs.Request.{Request, request, request_check}
 use Rattle.call_request.proofs.Request.{sound}
 use Rattle.text.specs.Inside.{Put}
@@ -29,8 +30,8 @@ module _ (input : List ℕ) where
 
   same_lines : (v : Verdict) → request_check (request_in input) ≡ v → lines_for v cut ≡ lines_for v (request_in input)
   unfolding lines_for
-  same_lines Pass h = rw (whole-list input (sound (request_in input) h).holidays)
-  same_lines (Refused r) h = refl
+  same_lines (Ok _) h = rw (whole-list input (sound (request_in input) h).holidays)
+  same_lines (Err r) h = refl
 
   pub whole : {head : Head} {file list before after : List ℕ} {r : ℕ} → head ≡ head_of input → file ≡ drop (file_start input) input →
       list ≡ longs_from input (asked_entries (list_length input)) head_length →

@@ -38,8 +38,8 @@ pub fn put_text(input: &[u8], page: &mut [u8]) -> usize
     ensures { Put (printed input.now) page.old 0 result page.new }
 {
     let head = match program_input::head_in(input) {
-        Headed::Complete(head) => head,
-        Headed::Refused(refusal) => return program_refusal::put_refused_line(refusal, page, 0),
+        Ok(head) => head,
+        Err(refusal) => return program_refusal::put_refused_line(refusal, page, 0),
     };
     answer(input, head, page)
 }

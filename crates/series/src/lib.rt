@@ -2,7 +2,7 @@
 #![tactic(auto)]
 
 ghost use Rattle.std.specs.Prelude.{◌≡◌, ◌≤◌, ◌<◌, length};
-ghost use Rattle.refusal.specs.declared.Verdict.TheVariants.{Pass};
+ghost use Rattle.refusal.specs.Questions.{Pass};
 ghost use Rattle.calendar_dates.specs.Dates.{day_of_year};
 ghost use Rattle.calendar_holidays.specs.Holidays.{holidays_question};
 ghost use Rattle.calendar_days.specs.Days.{day_kind};

@@ -43,7 +43,7 @@ fn print(rt: &HostRuntime, input: &[u8], count: usize, page: &mut [u8]) -> io::R
     ensures { page.new ≡ page_after (take count input.now) page.old }
 {
     let answer = program_response::respond(&input[0..count], page);
-    let Response::Written(written) = answer else {
+    let Ok(written) = answer else {
         return Ok(()); // not reached: theorem `EnoughRoom`
     };
     match io::writer(rt).write_all(&page[0..written]) {

@@ -3,7 +3,7 @@
 #![tactic(auto)]
 
 ghost use Rattle.std.specs.Prelude.{◌≡◌, true, ◌+◌, ◌*◌, ◌^◌, ◌≤◌, ◌<◌, length};
-ghost use Rattle.refusal.specs.declared.Verdict.TheVariants.{Pass};
+ghost use Rattle.refusal.specs.Questions.{Pass};
 ghost use Rattle.calendar_dates.specs.Dates.{is_date};
 ghost use Rattle.calendar_holidays.specs.Holidays.{holidays_question};
 ghost use Rattle.calendar_period.specs.Inside.{RealDay, RealDays};

@@ -1,19 +1,19 @@
 -- `calendar_period::count_days` meets its contract: a refusal is passed on, and after a pass the next question counts.
 use mathlib.Core.Path.{◌≡◌, sym, ◌∙◌, ap}
 use Prim.Native.Nat.{ℕ}
-use Rattle.refusal.specs.declared.Verdict.TheVariants.{Pass}
+use Rattle.refusal.specs.Questions.{answered}
+use Rattle.refusal.specs.Questions.{Pass}
 use Rattle.refusal.specs.Questions.{◌then◌}
 use Rattle.refusal.proofs.Questions.{then-pass, refused-first}
 use Rattle.calendar_dates.specs.declared.Date.{Date}
 use Rattle.calendar_dates.specs.Dates.{date_of, is_date}
-use Rattle.calendar_period.specs.declared.Counted.{Counted}
 use Rattle.calendar_period.specs.Period.{date_question, period_question, period_check}
-use Rattle.calendar_period.specs.Inside.{period_days, counted_by}
+use Rattle.calendar_period.specs.Inside.{period_days}
 use Rattle.calendar_period.proofs.Period.{dated-real, dated-refused, real-date, answers-refused}
 use Rattle.calendar_period.proofs.count_days.Goals as goal
 
 asked : (first last : ℕ) {a b : Date} {r : Counted} → date_question first 0 ≡ Pass → date_question last 1 ≡ Pass → a ≡ date_of first → b ≡ date_of last →
-    r ≡ counted_by (period_question a b) (period_days a b) → r ≡ counted_by (period_check first last) (period_days (date_of first) (date_of last))
+    r ≡ answered (period_question a b) (period_days a b) → r ≡ answered (period_check first last) (period_days (date_of first) (date_of last))
 asked first last p q e f h =
     let question = period_question (date_of first) (date_of last) in
     h ∙ rw (e, f) (sym (rw (then-pass (date_question last 1 then question) p, then-pass question q)))

@@ -1,10 +1,11 @@
 -- `calendar_period::days_between` meets its contract: each answer by the tests that led there.
+use Rattle.std.specs.Prelude.{Err}
 use mathlib.Core.Path.{◌≡◌}
 use Prim.Native.Nat.{ℕ, ◌+◌, ◌-◌, ◌≤◌, ◌<◌}
 use native.Mathlib.Omega.{arith}
 use borrow.Author.Tests.{le-leb, lt-leb}
 use Rattle.refusal.specs.declared.Refusal.TheVariants.{BadPeriod}
-use Rattle.refusal.specs.declared.Verdict.TheVariants.{Pass, Refused}
+use Rattle.refusal.specs.Questions.{Pass}
 use Rattle.refusal.proofs.Questions.{ask-yes, ask-no}
 use Rattle.calendar_dates.specs.declared.Date.{Date}
 use Rattle.calendar_dates.specs.Dates.{day_number}
@@ -17,11 +18,11 @@ use Rattle.calendar_period.proofs.Period.{answers-days, answers-refused}
 use Rattle.calendar_period.proofs.days_between.Goals as goal
 
 module _ (first last : Date) {from to : ℕ} (f : from ≡ day_number first) (t : to ≡ day_number last) where
-  turned : to < from → period_question first last ≡ Refused BadPeriod
+  turned : to < from → period_question first last ≡ Err BadPeriod
   unfolding period_question
   turned h = ask-no BadPeriod (rw (← f, ← t, lt-leb from to h))
 
-  too_long : from ≤ to → 1_461 < to + 1 - from → period_question first last ≡ Refused BadPeriod
+  too_long : from ≤ to → 1_461 < to + 1 - from → period_question first last ≡ Err BadPeriod
   unfolding period_question days_of
   too_long h k = ask-no BadPeriod (rw (← f, ← t, le-leb from to h, lt-leb _ _ k))
 

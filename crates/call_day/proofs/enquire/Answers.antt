@@ -1,25 +1,26 @@
 -- `call_day::enquire` meets its contract: the questions in order, each refusal passed on.
+use Rattle.std.specs.Prelude.{Ok, Err}
 use mathlib.Core.Path.{◌≡◌, sym, ◌∙◌, ap}
 use mathlib.Core.List.{List}
 use Prim.Native.Nat.{ℕ}
 use Rattle.refusal.specs.declared.Refusal.{Refusal}
-use Rattle.refusal.specs.declared.Verdict.TheVariants.{Pass, Refused}
+use Rattle.refusal.specs.Questions.{Pass}
 use Rattle.refusal.proofs.Questions.{then-pass, refused-first}
 use Rattle.calendar_dates.specs.declared.Date.{Date}
 use Rattle.calendar_dates.specs.Dates.{date_of, is_date}
 use Rattle.calendar_period.proofs.Period.{dated-real, dated-refused, real-date}
 use Rattle.call_day.specs.declared.Day.{Day}
-use Rattle.call_day.specs.declared.DayAnswer.{DayAnswer}
+use Rattle.call_day.specs.Enquiry.{DayAnswer}
 use Rattle.call_day.specs.Enquiry.{describe, day_check, day_enquiry, reported}
 use Rattle.call_day.proofs.enquire.Goals as goal
 
 module _ (date : ℕ) (holidays : List ℕ) where
-  refused : {r : Refusal} → day_check date holidays ≡ Refused r → DayAnswer.Refused r ≡ day_enquiry date holidays
+  refused : {r : Refusal} → day_check date holidays ≡ Err r → Err r ≡ day_enquiry date holidays
   unfolding day_enquiry
   refused e = rw e
 
   described : {d : Date} {day : Day} → day_check date holidays ≡ Pass → d ≡ date_of date → day ≡ describe d holidays →
-      DayAnswer.Described day ≡ day_enquiry date holidays
+      Ok day ≡ day_enquiry date holidays
   unfolding day_enquiry
   described e f g = rw (e, g, f)
 

@@ -4,8 +4,8 @@ use Prim.Native.Nat.{◌≤◌}
 use native.Mathlib.Omega.{arith}
 use lib.ListN.{length}
 use borrow.Author.Rules.{rules}
-use Rattle.refusal.specs.declared.Verdict.{Verdict}
-use Rattle.refusal.specs.declared.Verdict.TheVariants.{Pass}
+use Rattle.refusal.specs.Questions.{Verdict}
+use Rattle.refusal.specs.Questions.{Pass}
 use Rattle.file_group.proofs.Group.{values-inside}
 use Rattle.call_request.specs.Request.{Request, request, days_in}
 use Rattle.call_open.specs.declared.Opening.{Opening}

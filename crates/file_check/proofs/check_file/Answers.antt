@@ -2,7 +2,7 @@
 -- lie in the file.
 use mathlib.Core.Path.{◌≡◌, sym, ◌∙◌, ap}
 use borrow.Author.Rules.{rules}
-use Rattle.refusal.specs.declared.Verdict.TheVariants.{Pass}
+use Rattle.refusal.specs.Questions.{Pass}
 use Rattle.refusal.specs.Questions.{reported}
 use Rattle.refusal.proofs.Questions.{then-pass, stops}
 use Rattle.file_layout.specs.declared.Layout.{Layout}

@@ -3,13 +3,13 @@ use mathlib.Core.Path.{◌≡◌, refl, sym, ◌∙◌}
 use mathlib.Core.Bool.{Bool, true, false, cond}
 use mathlib.Core.List.{List}
 use Prim.Native.Nat.{ℕ}
+use Rattle.refusal.specs.Questions.{answered}
 use Rattle.big_endian.specs.Inside.{words_of}
-use Rattle.refusal.specs.declared.Verdict.TheVariants.{Pass}
-use Rattle.file_group.specs.declared.Found.TheVariants.{At}
+use Rattle.refusal.specs.Questions.{Pass}
 use Rattle.file_group.specs.Group.{group_offset, group_question, check}
-use Rattle.file_group.specs.Inside.{found_by, value_bytes}
+use Rattle.file_group.specs.Inside.{value_bytes}
 use Rattle.file_group.proofs.Group.{found_at, found-refused, FoundAt, found-checked, found-besides, values-inside, part_length, part-words}
-use Rattle.file_compare.specs.declared.Comparison.TheVariants.{Alike, Different}
+use Rattle.file_compare.specs.declared.Likeness.TheVariants.{Alike, Different}
 use Rattle.file_compare.specs.Comparing.{compare_check, same, comparison}
 use Rattle.file_compare.proofs.Comparing.{as-reported, first-refused, first-passed, not-compared, compared}
 use Rattle.file_compare.proofs.compare.Goals as goal
@@ -20,8 +20,8 @@ record Both (file : List ℕ) (first second a b : ℕ) : Type 0 where
   pub one : FoundAt file first a
   pub two : FoundAt file second b
 
-both : (file : List ℕ) (first second : ℕ) {a b : ℕ} → At a ≡ found_by (check file first) (group_offset file first) →
-    At b ≡ found_by (group_question file second 1) (group_offset file second) → Both file first second a b
+both : (file : List ℕ) (first second : ℕ) {a b : ℕ} → At a ≡ answered (check file first) (group_offset file first) →
+    At b ≡ answered (group_question file second 1) (group_offset file second) → Both file first second a b
 both file first second f s =
     let one = found_at (check file first) f in
     let there = found-checked file first refl f in

@@ -1,5 +1,7 @@
 -- `file_group::find` meets its contract. The loop's invariant: what is left to search is all that counts, and the profiles that are
 -- left end where the file ends. The measure is how many are left.
+use Rattle.refusal.specs.Questions.{answered}
+use Rattle.std.specs.Prelude.{Err}
 use mathlib.Core.Path.{◌≡◌, sym, ◌∙◌}
 use mathlib.Core.List.{List}
 use Prim.Native.Nat.{ℕ, ◌<◌}
@@ -7,17 +9,15 @@ use native.Mathlib.Omega.{arith}
 use lib.ListN.{length}
 use Rattle.lists.proofs.Strides.{next-inside, one_less, none_ahead}
 use Rattle.refusal.specs.declared.Refusal.TheVariants.{NoGroup}
-use Rattle.file_group.specs.declared.Found.TheVariants.{At, Refused}
 use Rattle.file_group.specs.Group.{group_offset, group_question}
-use Rattle.file_group.specs.Inside.{found_by}
 use Rattle.file_group.proofs.Group.{find-here, find-later, find-end, group-there, group-missing, answers_at, answers-refused}
 use Rattle.file_group.proofs.find.Goals as goal
 
 module _ (file : List ℕ) (group place : ℕ) {at : ℕ} where
-  stands_here : at < length file → at ≡ group_offset file group → At at ≡ found_by (group_question file group place) (group_offset file group)
+  stands_here : at < length file → at ≡ group_offset file group → At at ≡ answered (group_question file group place) (group_offset file group)
   stands_here h e = answers_at (group-there file group place (rw (← e) h)) e
 
-  missing : at ≡ length file → at ≡ group_offset file group → Refused (NoGroup place) ≡ found_by (group_question file group place) (group_offset file group)
+  missing : at ≡ length file → at ≡ group_offset file group → Err (NoGroup place) ≡ answered (group_question file group place) (group_offset file group)
   missing end e = answers-refused _ (group-missing file group place (rw (← e) (omega arith)))
 
 pub returns-then-file-at : goal.returns-then-file-at

@@ -2,7 +2,7 @@
 -- before it passed.
 use mathlib.Core.Path.{◌≡◌, sym, ◌∙◌, ap}
 use borrow.Author.Rules.{rules}
-use Rattle.refusal.specs.declared.Verdict.TheVariants.{Pass}
+use Rattle.refusal.specs.Questions.{Pass}
 use Rattle.refusal.proofs.Questions.{then-pass, stops}
 use Rattle.file_layout.specs.declared.Layout.{Layout}
 use Rattle.file_layout.specs.Header.{mark_question, version_question, length_question, header_check}

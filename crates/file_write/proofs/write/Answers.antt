@@ -4,7 +4,7 @@ use mathlib.Core.List.{List}
 use Prim.Native.Nat.{ℕ, ◌+◌, ◌*◌, ◌≤◌}
 use native.Mathlib.Omega.{arith}
 use lib.ListN.{length}
-use Rattle.refusal.specs.declared.Verdict.TheVariants.{Pass}
+use Rattle.refusal.specs.Questions.{Pass}
 use Rattle.file_written.proofs.Written.{length-written}
 use Rattle.file_write_check.specs.WriteCheck.{write_check}
 use Rattle.file_write_check.proofs.Passed.{Writable, writable}

@@ -1,13 +1,14 @@
 -- `program_answer::put_answer` meets its contract: a refusal's line, or the lines of the days and the last one.
+use Rattle.refusal.specs.Questions.{answered}
+use Rattle.std.specs.Prelude.{Ok}
 use mathlib.Core.Path.{◌≡◌}
 use mathlib.Core.List.{List, []}
 use Prim.Native.Nat.{ℕ}
 use native.Mathlib.Omega.{arith}
 use Rattle.file_group.proofs.Group.{values-inside}
 use Rattle.call_request.specs.Request.{request, request_check}
-use Rattle.call_open.specs.declared.Opened.{Opened}
 use Rattle.call_open.specs.declared.Opening.{Opening}
-use Rattle.call_open.specs.Inside.{opening, opened_by}
+use Rattle.call_open.specs.Inside.{opening}
 use Rattle.call_open.proofs.Given.{opened-refused, OpenedFor, opened-for, table_is, group-values}
 use Rattle.program_answer.proofs.Accepted.{accepted}
 use Rattle.program_answer.proofs.Answer.{refused-lines, accepted-lines}
@@ -15,8 +16,8 @@ use Rattle.program_answer.proofs.put_answer.Goals as goal
 
 -- the request was opened
 opened : {file holidays : List ℕ} {group first last yearly : ℕ} {o : Opening} →
-    Opened.Open o
-    ≡ opened_by (request_check (request file group first last holidays yearly 0 [])) (opening (request file group first last holidays yearly 0 [])) →
+    Ok o
+    ≡ answered (request_check (request file group first last holidays yearly 0 [])) (opening (request file group first last holidays yearly 0 [])) →
     OpenedFor (request file group first last holidays yearly 0 []) o
 opened = opened-for _
 

@@ -1,11 +1,12 @@
 -- `program_input::head_in` meets its contract: each test decides one part of the question.
+use Rattle.std.specs.Prelude.{Err}
 use mathlib.Core.Path.{◌≡◌, ap}
 use mathlib.Core.List.{List}
 use Prim.Native.Nat.{ℕ, ◌≤◌, ◌<◌}
 use lib.ListN.{length}
 use borrow.Author.Tests.{le-leb, lt-leb}
 use Rattle.refusal.specs.declared.Refusal.TheVariants.{BadInput}
-use Rattle.refusal.specs.declared.Verdict.TheVariants.{Pass, Refused}
+use Rattle.refusal.specs.Questions.{Pass}
 use Rattle.refusal.proofs.Questions.{ask-yes, ask-no}
 use Rattle.program_input.specs.declared.Head.{Head}
 use Rattle.program_input.specs.Input.{head_length, file_start, input_question}
@@ -13,16 +14,16 @@ use Rattle.program_input.proofs.Input.{answers-complete, answers-refused}
 use Rattle.program_input.proofs.head_in.Goals as goal
 
 module _ (input : List ℕ) where
-  too_long : 65_536 < length input → input_question input ≡ Refused BadInput
+  too_long : 65_536 < length input → input_question input ≡ Err BadInput
   unfolding input_question
   too_long h = ask-no BadInput (simp (lt-leb (length input) 65_536 h))
 
   module _ (small : length input ≤ 65_536) where
-    no-head : length input < head_length → input_question input ≡ Refused BadInput
+    no-head : length input < head_length → input_question input ≡ Err BadInput
     unfolding input_question
     no-head h = ask-no BadInput (simp (le-leb (length input) 65_536 small, lt-leb head_length (length input) h))
 
-    no-list : head_length ≤ length input → length input < file_start input → input_question input ≡ Refused BadInput
+    no-list : head_length ≤ length input → length input < file_start input → input_question input ≡ Err BadInput
     unfolding input_question
     no-list h l =
         ask-no BadInput (simp (le-leb (length input) 65_536 small, le-leb head_length (length input) h, lt-leb (file_start input) (length input) l))

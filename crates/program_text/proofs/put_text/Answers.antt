@@ -1,9 +1,10 @@
 -- `program_text::put_text` meets its contract: by question 13.
+use Rattle.std.specs.Prelude.{Err}
 use mathlib.Core.Path.{◌≡◌}
 use mathlib.Core.List.{List}
 use Prim.Native.Nat.{ℕ}
 use Rattle.refusal.specs.declared.Refusal.{Refusal}
-use Rattle.refusal.specs.declared.Verdict.TheVariants.{Pass, Refused}
+use Rattle.refusal.specs.Questions.{Pass}
 use Rattle.refusal.proofs.Questions.{then-pass, refused-first}
 use Rattle.text.specs.Inside.{Put}
 use Rattle.program_input.specs.Input.{input_question, request_in}
@@ -16,7 +17,7 @@ use Rattle.program_text.proofs.put_text.Goals as goal
 
 -- refused by question 13, and passed
 module _ (input : List ℕ) {before after : List ℕ} {r : ℕ} where
-  input-refused : {refusal : Refusal} → input_question input ≡ Refused refusal → Put (refused_line refusal) before 0 r after → Put (printed input) before 0 r after
+  input-refused : {refusal : Refusal} → input_question input ≡ Err refusal → Put (refused_line refusal) before 0 r after → Put (printed input) before 0 r after
   unfolding printed
   input-refused e = refused-lines _ (refused-first _ e)
 
