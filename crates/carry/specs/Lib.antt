@@ -1,2 +1,3 @@
 pub mod Carry
 pub mod Energy
+pub mod Totals
