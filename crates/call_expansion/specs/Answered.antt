@@ -2,8 +2,6 @@
 -- elsewhere": what expanding answers, and the numbers for each case of the answer.
 use Rattle.std.specs.Prelude.{Result, Ok, Err}
 use Rattle.refusal.specs.declared.Refusal.{Refusal}
-use Rattle.refusal.specs.Questions.{Verdict}
-use Rattle.refusal.specs.Questions.{Pass}
 use Rattle.refusal.specs.Questions.{refusal_number, refusal_place}
 use Rattle.carry.specs.declared.Totals.{Totals}
 use Rattle.call_expansion.specs.declared.ExpansionReport.{ExpansionReport}

@@ -7,16 +7,12 @@ ghost use Rattle.call_expansion.specs.Answered.{reported};
 use carry::Totals;
 use refusal::Refusal;
 
-// What expanding answers: count, total and last carry, or the refusal.
-#[derive(Clone, Copy)]
-pub enum Expansion {
-    Expanded(Totals),
-    Refused(Refusal),
-}
+// Count, total and last carry, or the first question that did not pass.
+pub type Expansion = Result<Totals, Refusal>;
 
 // The answer as document 01's numbers: number and place, 0 when accepted, and count, total and carry, 0 when refused.
 #[repr(C)]
-#[derive(Clone, Copy)]
+#[derive(Clone, Copy, Default)]
 pub struct ExpansionReport {
     pub number: u32,
     pub place: usize,
@@ -25,36 +21,22 @@ pub struct ExpansionReport {
     pub carry: u32,
 }
 
-fn report_totals(t: Totals) -> ExpansionReport
-    ensures { result ≡ reported (Ok t) }
-{
-    ExpansionReport {
-        number: 0,
-        place: 0,
-        count: t.count,
-        total: t.total,
-        carry: t.carry,
-    }
-}
+impl From<Expansion> for ExpansionReport {
+    ghost from_gives = { λ answer report. report ≡ reported answer };
 
-fn report_refusal(refusal: Refusal) -> ExpansionReport
-    ensures { result ≡ reported (Err refusal) }
-{
-    ExpansionReport {
-        number: refusal.number(),
-        place: refusal.place(),
-        count: 0,
-        total: 0,
-        carry: 0,
-    }
-}
-
-// The answer as document 01's numbers.
-pub fn report(answer: Expansion) -> ExpansionReport
-    ensures { result ≡ reported answer }
-{
-    match answer {
-        Ok(t) => report_totals(t),
-        Err(refusal) => report_refusal(refusal),
+    fn from(answer: Expansion) -> ExpansionReport {
+        match answer {
+            Ok(totals) => ExpansionReport {
+                count: totals.count,
+                total: totals.total,
+                carry: totals.carry,
+                ..ExpansionReport::default()
+            },
+            Err(refusal) => ExpansionReport {
+                number: refusal.number(),
+                place: refusal.place(),
+                ..ExpansionReport::default()
+            },
+        }
     }
 }
