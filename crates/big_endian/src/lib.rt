@@ -6,13 +6,11 @@ ghost use Rattle.std.proofs.lemmas.List.Edits.{sets};
 ghost use Rattle.big_endian.specs.BigEndian.{word_at, long_at, bytes_of};
 
 // The 16-bit number that begins at `at`.
-pub fn word_at(file: &[u8], at: usize) -> u32
+pub fn word_at(file: &[u8], at: usize) -> u16
     requires { at + 2 ≤ length file.now }
-    ensures { (result ≡ word_at file.now at) × (result < 65_536) }
+    ensures { result ≡ word_at file.now at }
 {
-    let high = file[at] as u32;
-    let low = file[at + 1] as u32;
-    high * 256 + low
+    u16::from_be_bytes([file[at], file[at + 1]])
 }
 
 // The 32-bit number that begins at `at`.
@@ -20,7 +18,7 @@ pub fn long_at(input: &[u8], at: usize) -> u32
     requires { at + 4 ≤ length input.now }
     ensures { result ≡ long_at input.now at }
 {
-    word_at(input, at) * 65_536 + word_at(input, at + 2)
+    u32::from_be_bytes([input[at], input[at + 1], input[at + 2], input[at + 3]])
 }
 
 // A 16-bit number, big-endian.
@@ -28,6 +26,5 @@ pub fn put_word(value: u16, buffer: &mut [u8], at: usize)
     requires { at + 2 ≤ length buffer.old }
     ensures { buffer.new ≡ sets buffer.old at (bytes_of (value ∷ [])) }
 {
-    buffer[at] = (value / 256) as u8;
-    buffer[at + 1] = (value % 256) as u8;
+    buffer[at..at + 2].copy_from_slice(&value.to_be_bytes());
 }

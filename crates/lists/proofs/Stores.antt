@@ -6,6 +6,8 @@ use Prim.Native.Nat.{ℕ, suc, ◌+◌, ◌≤◌}
 use native.Mathlib.Nat.{zero-add, add-zero}
 use native.Mathlib.Omega.{arith}
 use lib.ListN.{length, take, drop, set}
+use borrow.Rule.Slice.PartMut.{put_mid}
+use Rattle.std.proofs.lemmas.List.{drop-drop}
 use lib.Seq.{sets, sets-eq, set_comm, length-sets}
 
 module _ {A : Type 0} where
@@ -17,6 +19,11 @@ module _ {A : Type 0} where
 
   pub stored-first : (list memory : List A) {n : ℕ} → length list ≡ n → n ≤ length memory → sets memory 0 list ≡ list ++ drop n memory
   stored-first list memory {n} e room = rw (zero-add n) at (stored list memory 0 e (omega arith))
+
+  -- what a part of memory holds after it was written is a store of that list there
+  pub part-stored : (memory part list : List A) (at n : ℕ) → part ≡ list → length list ≡ n → at + n ≤ length memory → put_mid at n memory part ≡ sets memory at list
+  part-stored memory part list at n e size room =
+      rw (e, drop-drop n at memory) (sym (stored list memory at size room))
 
   -- stores of one list and then of another, behind it
   pub sets-append : (memory first second : List A) (at : ℕ) → sets memory at (first ++ second) ≡ sets (sets memory at first) (at + length first) second
