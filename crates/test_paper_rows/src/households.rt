@@ -1,7 +1,8 @@
 // Households, group H0: Abb. 5 and 6.
-ghost use Rattle.std.specs.Prelude.{◌≤◌, ◌<◌, IfOk};
+ghost use Rattle.std.specs.Prelude.{◌≤◌, IfOk};
 
-use crate::{Scale, file, lines, rows};
+use crate::rows::{ROWS, Table};
+use crate::{Scale, file};
 use std::io;
 
 // Abb. 5: the factors of the rows in units of 1/10,000, 0 where none is printed: the regional rows have none.
@@ -11,7 +12,7 @@ const FACTORS: [u32; 20] = [
 ];
 
 // Abb. 5: the values P of the rows in tenths of a watt.
-pub const VALUES: [[u16; 8]; 20] = [
+pub const VALUES: Table = [
     [875, 811, 750, 691, 686, 813, 952, 1090],
     [875, 811, 750, 691, 686, 813, 952, 1090],
     [676, 608, 549, 499, 1354, 1348, 1331, 1307],
@@ -35,7 +36,7 @@ pub const VALUES: [[u16; 8]; 20] = [
 ];
 
 // Abb. 6: the powers Q of the same rows in tenths of a watt.
-const POWERS: [[u16; 8]; 20] = [
+const POWERS: Table = [
     [1087, 1007, 932, 858, 852, 1010, 1182, 1354],
     [1088, 1009, 933, 860, 853, 1011, 1184, 1356],
     [842, 757, 684, 622, 1687, 1679, 1658, 1628],
@@ -65,38 +66,30 @@ pub fn compare_powers(rt: &HostRuntime, file: &[u8; file::LENGTH]) -> io::Result
         unit: 1,
     };
     let agree = crate::compare(rt, file, scale, &VALUES, &POWERS)?;
-    lines::write_tally(rt, b"Abb. 6: ", agree, 160)
+    println!(rt; "Abb. 6: {agree} of 160")
 }
 
 pub fn compare_factors(rt: &HostRuntime) -> io::Result<()> {
-    lines::write_tally(rt, b"Abb. 5, factors: ", agreeing_factors(rt)?, 18)
-}
-
-fn agreeing_factors(rt: &HostRuntime) -> io::Result<u32> {
     let mut agree: u32 = 0;
-    let mut i: usize = 0;
-    while i < 20 {
-        agree += compare_factor(rt, i)?;
-        i += 1;
+    for (row, printed) in ROWS.iter().zip(&FACTORS) {
+        agree += compare_factor(rt, row.t, *printed)?;
     }
-    Ok(agree)
+    println!(rt; "Abb. 5, factors: {agree} of 18")
 }
 
-// 1 where the factor of row i agrees with the printed one. Else 0, after a line with the day and both; without a line where
+// 1 where the factor of a day agrees with the printed one. Else 0, after a line with the day and both; without a line where
 // none is printed.
-fn compare_factor(rt: &HostRuntime, i: usize) -> io::Result<u32>
-    requires { i < 20 }
+fn compare_factor(rt: &HostRuntime, t: u32, printed: u32) -> io::Result<u32>
+    requires { (1 ≤ t) × (t ≤ 366) }
     ensures { IfOk result (λ n. n ≤ 1) }
 {
-    let printed = FACTORS[i];
     if printed == 0 {
         return Ok(0);
     }
-    let t = rows::day(i);
     let ours = dynamisation::factor(0, t);
     if ours == printed {
         return Ok(1);
     }
-    lines::write_factor(rt, t, ours, printed)?;
+    println!(rt; "{t} {ours} {printed}")?;
     Ok(0)
 }

@@ -7,12 +7,12 @@
 
 mod file;
 mod households;
-mod lines;
 mod rows;
 mod trade;
 
-ghost use Rattle.std.specs.Prelude.{◌≤◌, ◌<◌, IfOk};
+ghost use Rattle.std.specs.Prelude.{◌≤◌, IfOk};
 
+use rows::{COLUMNS, ROWS, Row, Table};
 use std::io;
 
 // Whose figures a table's powers are compared with, and how many units of a figure make a tenth of a watt. For 40,000 kWh a
@@ -22,6 +22,8 @@ pub struct Scale {
     pub group: u8,
     pub yearly: u32,
     pub unit: u64,
+    ghost some: { 1 ≤ unit },
+    ghost few: { unit ≤ 1000 },
 }
 
 fn main(rt: HostRuntime) -> io::Result<()> {
@@ -38,108 +40,100 @@ pub fn compare(
     rt: &HostRuntime,
     file: &[u8; file::LENGTH],
     scale: Scale,
-    values: &[[u16; 8]; 20],
-    printed: &[[u16; 8]; 20],
-) -> io::Result<u32>
-    requires { (1 ≤ scale.unit) × (scale.unit ≤ 1000) }
-{
+    values: &Table,
+    printed: &Table,
+) -> io::Result<u32> {
     let mut agree: u32 = 0;
-    let mut i: usize = 0;
-    while i < 20 {
-        agree += compare_row(rt, file, scale, i, values, printed)?;
-        i += 1;
+    for (row, (values, printed)) in ROWS.iter().zip(values.iter().zip(printed)) {
+        let mut figures = [0u32; 96];
+        expand_row(rt, file, scale, row, &mut figures)?;
+        agree += compare_row(rt, row.t, scale, values, &figures, printed)?;
     }
     Ok(agree)
 }
 
 fn compare_row(
     rt: &HostRuntime,
-    file: &[u8; file::LENGTH],
+    t: u32,
     scale: Scale,
-    i: usize,
-    values: &[[u16; 8]; 20],
-    printed: &[[u16; 8]; 20],
+    values: &[u16; 8],
+    figures: &[u32; 96],
+    printed: &[u16; 8],
 ) -> io::Result<u32>
-    requires { (1 ≤ scale.unit) × (scale.unit ≤ 1000) × (i < 20) }
     ensures { IfOk result (λ n. n ≤ 8) }
 {
-    let mut figures = [0u32; 96];
-    expand_row(file, scale, i, &mut figures);
     let mut agree: u32 = 0;
-    let mut j: usize = 0;
-    while j < 8 {
-        agree += compare_cell(rt, i, j, values, &figures, scale.unit, printed)?;
-        j += 1;
+    for (column, (value, printed)) in COLUMNS.iter().zip(values.iter().zip(printed)) {
+        let ours = scale.power(figures[column.position]);
+        let cell = Cell {
+            t,
+            quarters: column.position + 1,
+            value: *value,
+        };
+        agree += compare_cell(rt, cell, ours, *printed)?;
     }
     Ok(agree)
 }
 
-// 1 where the power of row i and column j agrees with the printed one. Else 0, after a line with the day, the time, P and
-// both; without a line where none is printed.
-fn compare_cell(
-    rt: &HostRuntime,
-    i: usize,
-    j: usize,
-    values: &[[u16; 8]; 20],
-    figures: &[u32; 96],
-    unit: u64,
-    printed: &[[u16; 8]; 20],
-) -> io::Result<u32>
-    requires { (i < 20) × (j < 8) × (1 ≤ unit) × (unit ≤ 1000) }
+// A quarter hour of a table: its day, how many quarter hours of the day are over with it, and its value P.
+#[derive(Clone, Copy)]
+struct Cell {
+    t: u32,
+    quarters: usize,
+    value: u16,
+}
+
+// 1 where a power agrees with the printed one. Else 0, after a line with the day, the time, P and both; without a line where none
+// is printed.
+fn compare_cell(rt: &HostRuntime, cell: Cell, ours: u64, printed: u16) -> io::Result<u32>
     ensures { IfOk result (λ n. n ≤ 1) }
 {
-    let theirs = rows::cell(printed, i, j);
-    if theirs == 0 {
+    if printed == 0 {
         return Ok(0);
     }
-    let position = rows::position(j);
-    let ours = power(figures[position], unit);
-    if ours == theirs as u64 {
+    if ours == u64::from(printed) {
         return Ok(1);
     }
-    lines::write_power(
-        rt,
-        rows::day(i),
-        position,
-        rows::cell(values, i, j),
-        ours,
-        theirs,
-    )?;
+    let t = cell.t;
+    let hours = cell.quarters / 4;
+    let minutes = cell.quarters % 4 * 15;
+    let value = cell.value;
+    println!(rt; "{t} {hours:02}:{minutes:02} {value} {ours} {printed}")?;
     Ok(0)
 }
 
-// The power of a figure in tenths of a watt, rounded half up.
-fn power(figure: u32, unit: u64) -> u64
-    requires { (1 ≤ unit) × (unit ≤ 1000) }
-{
-    (figure as u64 + unit / 2) / unit
-}
-
-// The figures of row i's day.
-fn expand_row(file: &[u8; file::LENGTH], scale: Scale, i: usize, figures: &mut [u32; 96])
-    requires { i < 20 }
-{
-    if rows::is_regional(i) {
-        return expand(
-            file,
-            scale,
-            rows::date(i),
-            &rows::REGIONAL_HOLIDAYS,
-            figures,
-        );
+impl Scale {
+    // The power of a figure in tenths of a watt, rounded half up.
+    fn power(self, figure: u32) -> u64 {
+        (u64::from(figure) + self.unit / 2) / self.unit
     }
-    expand(file, scale, rows::date(i), &rows::HOLIDAYS, figures);
 }
 
-fn expand(file: &[u8], scale: Scale, date: u32, holidays: &[u32], figures: &mut [u32]) {
-    call_expand::expand(
+// The figures of a row's day.
+fn expand_row(
+    rt: &HostRuntime,
+    file: &[u8],
+    scale: Scale,
+    row: &Row,
+    figures: &mut [u32],
+) -> io::Result<()> {
+    let holidays: &[u32] = if row.regional {
+        &rows::REGIONAL_HOLIDAYS
+    } else {
+        &rows::HOLIDAYS
+    };
+    let answer = call_expand::expand(
         file,
         scale.group,
-        date,
-        date,
+        row.date,
+        row.date,
         holidays,
         scale.yearly,
         0,
         figures,
     );
+    if let Err(refusal) = answer {
+        println!(rt; "refused {refusal}")?;
+    }
+    Ok(())
 }

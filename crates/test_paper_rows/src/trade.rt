@@ -1,9 +1,10 @@
 // Trade in general, group G0: Abb. 4, 7 and 8.
-use crate::{Scale, file, lines};
+use crate::rows::Table;
+use crate::{Scale, file};
 use std::io;
 
 // Abb. 4: the values P of the rows in tenths of a watt. Abb. 7 prints the same, without the regional rows.
-pub const VALUES: [[u16; 8]; 20] = [
+pub const VALUES: Table = [
     [632, 610, 589, 570, 496, 490, 488, 495],
     [632, 610, 589, 570, 496, 490, 488, 495],
     [655, 626, 596, 570, 1571, 1795, 2005, 2168],
@@ -28,7 +29,7 @@ pub const VALUES: [[u16; 8]; 20] = [
 
 // Abb. 8: the powers of the same rows in tenths of a watt for 4,711 kWh a year, 0 where none is printed: for 1:00 days 6 and 174
 // have one cell, and not two.
-const SCALED: [[u16; 8]; 20] = [
+const SCALED: Table = [
     [2977, 2874, 2775, 2685, 2337, 2308, 2299, 2332],
     [2977, 2874, 2775, 2685, 2337, 2308, 2299, 2332],
     [3086, 2949, 2808, 2685, 7401, 8456, 9446, 10213],
@@ -58,7 +59,7 @@ pub fn compare_values(rt: &HostRuntime, file: &[u8; file::LENGTH]) -> io::Result
         unit: 1,
     };
     let agree = crate::compare(rt, file, scale, &VALUES, &VALUES)?;
-    lines::write_tally(rt, b"Abb. 4 and 7: ", agree, 160)
+    println!(rt; "Abb. 4 and 7: {agree} of 160")
 }
 
 // For 40,000 times 4,711 kWh a figure is 4,711 P, and the power of 4,711 kWh is 4,711 P / 1,000.
@@ -69,5 +70,5 @@ pub fn compare_scaled(rt: &HostRuntime, file: &[u8; file::LENGTH]) -> io::Result
         unit: 1000,
     };
     let agree = crate::compare(rt, file, scale, &VALUES, &SCALED)?;
-    lines::write_tally(rt, b"Abb. 8: ", agree, 158)
+    println!(rt; "Abb. 8: {agree} of 158")
 }
