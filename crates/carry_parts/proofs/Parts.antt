@@ -1,12 +1,8 @@
 -- A sum kept in parts of 1/2^38 Wh: which sum of document 01 it stands for, and by how much it is above that sum. Assumes nothing.
-use mathlib.Core.Path.{◌≡◌}
-use mathlib.Core.List.{List}
-use Prim.Native.Nat.{ℕ, ◌+◌, ◌-◌, ◌*◌, ◌/◌, ◌%◌, ◌^◌, ◌≤◌, ◌<◌}
-use native.Mathlib.Omega.{arith}
-use native.Mathlib.Nat.{mul-le-mul}
-use lib.ListN.{length, get_or, set}
-use lib.Seq.{slice}
-use Rattle.carry_quotients.proofs.Turns.{Left, turn}
+use Rattle.std.proofs.Common.{◌≡◌, refl, List, [], ◌∷◌, ℕ, ◌+◌, ◌*◌, ◌/◌, ◌%◌, ◌≤◌, ◌<◌, arith}
+use Rattle.std.proofs.Math.Nat.{mul-le-mul}
+use Rattle.lists.specs.Lists.{sum}
+use Rattle.carry_quotients.specs.Growths.{growths}
 
 -- what stands for n: n / 40,000 in parts, rounded up
 abbrev pub scaled : ℕ → ℕ
@@ -48,7 +44,7 @@ module _ (parts p n : ℕ) (few : excess parts + p * 39_999 < 274_877_906_944) w
       let same : p ≤ p = omega arith in
       mul-le-mul same (omega arith)
 
-  more-sum : sum_of (parts + p * scaled n) ≡ sum_of parts + p * n
+  pub more-sum : sum_of (parts + p * scaled n) ≡ sum_of parts + p * n
   unfolding sum_of excess
   more-sum = omega (arith, lower, upper, few)
 
@@ -56,18 +52,12 @@ module _ (parts p n : ℕ) (few : excess parts + p * 39_999 < 274_877_906_944) w
   unfolding sum_of excess
   more-excess = omega (arith, lower, upper, few, more-sum)
 
--- what is added is at most 40,000 × 12.5 × 2^38, and the quotient grows by no more than 500,001
-pub growth-small : (parts added : ℕ) → added ≤ 137_438_953_472_000_000 → (parts + added) / 274_877_906_944 ≤ parts / 274_877_906_944 + 500_001
-growth-small parts added h = omega arith
-
-pub total-small : (parts : ℕ) {total i : ℕ} → i ≤ 96 → parts ≤ 274_877_906_944 + i * 137_438_953_472_000_000 → total ≡ sum_of parts / 40_000 → total ≤ 10 ^ 12
-total-small parts h k e = omega (arith, quotient-of parts, e)
-
--- a turn of the loop: the growth of the parts' quotient is the document's carry step
-pub turn-in-parts : {powers : List ℕ} {yearly carry : ℕ} {before : List ℕ} {at : ℕ} (day : List ℕ) (from to parts : ℕ) {total : ℕ} {out : List ℕ} {place : ℕ} →
-    from < to → to ≤ length day → excess parts + get_or day from 0 * 39_999 < 274_877_906_944 →
-    Left powers yearly carry before at (slice from to day) (sum_of parts) total out place →
-    Left powers yearly carry before at (slice (from + 1) to day) (sum_of (parts + get_or day from 0 * scaled yearly)) ((parts + get_or day from 0 * scaled yearly) / 274_877_906_944)
-    (set out place ((parts + get_or day from 0 * scaled yearly) / 274_877_906_944 - total)) (place + 1)
-turn-in-parts {yearly = yearly} day from to parts h k few l =
-    rw (quotient-of (parts + get_or day from 0 * scaled yearly), more-sum parts (get_or day from 0) yearly few) (turn day from to h k l)
+-- the parts' quotient grows as that of the sum for which they stand
+pub growths-of : (yearly : ℕ) (powers : List ℕ) (parts : ℕ) → excess parts + sum powers * 39_999 < 274_877_906_944 →
+    growths 274_877_906_944 (scaled yearly) powers parts ≡ growths 40_000 yearly powers (sum_of parts)
+unfolding growths sum
+growths-of yearly [] parts few = refl
+growths-of yearly (p ∷ powers) parts few =
+    let here : excess parts + p * 39_999 < 274_877_906_944 = omega (arith, few) in
+    let rest = growths-of yearly powers (parts + p * scaled yearly) (omega (arith, few, more-excess parts p yearly here)) in
+    rw (quotient-of (parts + p * scaled yearly), quotient-of parts, rest, more-sum parts p yearly here)

@@ -1,9 +1,8 @@
 // The figures of `carry_quotients` for a yearly use of at most 500,000 kWh, with the sums kept in parts of 1/2^38 Wh.
 #![tactic(auto)]
 
-ghost use Rattle.std.specs.Prelude.{◌≤◌};
-ghost use Rattle.std.proofs.Math.Seq.{slice};
-ghost use Rattle.carry_quotients.specs.Inside.{SmallPowers, InDay, RangeCarried};
+ghost use Rattle.std.specs.Prelude.{◌≤◌, length};
+ghost use Rattle.carry_quotients.specs.Inside.{SmallPowers, RangeCarried};
 
 use carry_quotients::Carried;
 
@@ -13,35 +12,18 @@ const PARTS: u64 = 274_877_906_944;
 // The same as `carry_by_quotients` for a yearly use of at most 500,000 kWh, with which a day's sum in parts fits 64 bits. The carry,
 // and what a power of 0.1 W comes to in a quarter hour, are turned into parts, rounded up: a range's sum is then too large by less
 // than 1/40,000 Wh, which changes no quotient, and a division by 2^38 is a shift.
-pub fn carry_by_parts(
-    powers: &[u32],
-    from: usize,
-    to: usize,
-    yearly: u32,
-    carry: u32,
-    out: &mut [u32],
-    at: usize,
-) -> Carried
+pub fn carry_by_parts(powers: &[u32], yearly: u32, carry: u32, out: &mut [u32]) -> Carried
     requires small_powers { SmallPowers powers.now yearly carry }
-    requires in_day { InDay from to powers.now out.old at }
+    requires in_day { length powers.now ≤ 96 }
+    requires room { length powers.now ≤ length out.old }
     requires yearly_bound { yearly ≤ 500_000 }
-    ensures { RangeCarried (slice from to powers.now) yearly carry out.old at result out.new }
+    ensures { RangeCarried powers.now yearly carry out.old result out.new }
 {
     let scaled = (yearly as u64 * PARTS + 39_999) / 40_000;
-    let mut sum = (carry as u64 * PARTS + 39_999) / 40_000;
-    let mut total: u64 = 0;
-    let mut i = from;
-    let mut place = at;
-    while i < to {
-        sum += powers[i] as u64 * scaled;
-        let whole = sum / PARTS;
-        out[place] = (whole - total) as u32;
-        total = whole;
-        i += 1;
-        place += 1;
-    }
+    let first = (carry as u64 * PARTS + 39_999) / 40_000;
+    let sum = carry_quotients::store_growths::<PARTS>(powers, scaled, first, out);
     Carried {
-        total,
+        total: sum / PARTS,
         carry: (sum % PARTS * 40_000 / PARTS) as u32,
     }
 }

@@ -1,6 +1,5 @@
 -- What storing a range's figures asks and comes to. No definition of document 01.
-use Rattle.std.specs.Prelude.{◌≡◌, List, ℕ, ◌+◌, ◌-◌, ◌^◌, ◌≤◌, length, get_or}
-use Rattle.std.proofs.lemmas.List.Edits.{sets}
+use Rattle.std.specs.Prelude.{◌≡◌, List, ◌++◌, ℕ, ◌^◌, ◌≤◌, length, drop, get_or}
 use Rattle.lists.specs.Lists.{sum}
 use Rattle.carry.specs.Carry.{largest_use, largest_carry, figures, last_carry}
 use Rattle.carry_quotients.specs.declared.Carried.{Carried}
@@ -12,16 +11,9 @@ pub record SmallPowers (powers : List ℕ) (yearly carry : ℕ) : Type 0 where
   pub yearly_small : yearly ≤ largest_use
   pub in_range : carry ≤ largest_carry
 
--- a range lies in the day, and its figures have room in the output
-pub record InDay (from to : ℕ) (day out : List ℕ) (at : ℕ) : Type 0 where
-  pub ordered : from ≤ to
-  pub within : to ≤ length day
-  pub whole : length day ≡ 96
-  pub room : at + (to - from) ≤ length out
-
--- the figures of some powers, stored from `at` on, and what they come to
-pub record RangeCarried (powers : List ℕ) (yearly carry : ℕ) (before : List ℕ) (at : ℕ) (r : Carried) (after : List ℕ) : Type 0 where
-  pub figures_stored : after ≡ sets before at (figures yearly powers carry)
+-- the figures of some powers, stored in front of the output, and what they come to
+pub record RangeCarried (powers : List ℕ) (yearly carry : ℕ) (before : List ℕ) (r : Carried) (after : List ℕ) : Type 0 where
+  pub figures_stored : after ≡ figures yearly powers carry ++ drop (length powers) before
   pub total_is : r.total ≡ sum (figures yearly powers carry)
   pub total_small : r.total ≤ 10 ^ 12
   pub carry_is : r.carry ≡ last_carry yearly powers carry

@@ -1,1 +1,2 @@
+pub mod Growths
 pub mod Inside

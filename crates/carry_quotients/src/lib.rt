@@ -1,45 +1,53 @@
-// Series and carry (document 01): the powers of a range of a day's positions made into whole watt hours with a carry.
+// Series and carry (document 01): powers made into whole watt hours with a carry.
 #![tactic(auto)]
 
-ghost use Rattle.std.proofs.Math.Seq.{slice};
-ghost use Rattle.carry_quotients.specs.Inside.{SmallPowers, InDay, RangeCarried};
+ghost use Rattle.std.specs.Prelude.{◌≡◌, ◌+◌, ◌*◌, ◌≤◌, ◌++◌, drop, length};
+ghost use Rattle.lists.specs.Lists.{sum};
+ghost use Rattle.carry_quotients.specs.Growths.{growths, Growing};
+ghost use Rattle.carry_quotients.specs.Inside.{SmallPowers, RangeCarried};
 
 // What some quarter hours come to: the sum of their figures in Wh, and the carry that they leave.
-#[derive(Clone, Copy)]
+#[derive(Clone, Copy, Debug, Default, PartialEq, Eq)]
 pub struct Carried {
     pub total: u64,
     pub carry: u32,
 }
 
-// Stores the figures of the positions from `from` to before `to`, from out[at] on. A figure is the growth of the quotient of the
-// sum so far: that is the document's carry step, and only the addition waits for the turn before.
-pub fn carry_by_quotients(
+// Adds up the powers, each times `factor`, from `first` on, and stores in front of `out` what each adds to the sum's quotient by
+// UNIT. Answers the last sum. Only the addition waits for the turn before.
+pub fn store_growths<const UNIT: u64>(
     powers: &[u32],
-    from: usize,
-    to: usize,
-    yearly: u32,
-    carry: u32,
+    factor: u64,
+    first: u64,
     out: &mut [u32],
-    at: usize,
-) -> Carried
-    requires small_powers { SmallPowers powers.now yearly carry }
-    requires in_day { InDay from to powers.now out.old at }
-    ensures { RangeCarried (slice from to powers.now) yearly carry out.old at result out.new }
+) -> u64
+    requires growing { Growing UNIT factor powers.now first }
+    requires room { length powers.now ≤ length out.old }
+    ensures sum { result ≡ first + sum powers.now * factor }
+    ensures growths { out.new ≡ growths UNIT factor powers.now first ++ drop (length powers.now) out.old }
 {
-    let mut sum = carry as u64;
-    let mut total: u64 = 0;
-    let mut i = from;
-    let mut place = at;
-    while i < to {
-        sum += powers[i] as u64 * yearly as u64;
-        let next = sum / 40_000;
-        out[place] = (next - total) as u32;
+    let mut sum = first;
+    let mut total = first / UNIT;
+    for (i, power) in powers.iter().enumerate() {
+        sum += *power as u64 * factor;
+        let next = sum / UNIT;
+        out[i] = (next - total) as u32;
         total = next;
-        i += 1;
-        place += 1;
     }
+    sum
+}
+
+// Stores the figures of a range of a day's positions. A figure is the growth of the quotient of the sum so far: that is the
+// document's carry step.
+pub fn carry_by_quotients(powers: &[u32], yearly: u32, carry: u32, out: &mut [u32]) -> Carried
+    requires small_powers { SmallPowers powers.now yearly carry }
+    requires in_day { length powers.now ≤ 96 }
+    requires room { length powers.now ≤ length out.old }
+    ensures { RangeCarried powers.now yearly carry out.old result out.new }
+{
+    let sum = store_growths::<40_000>(powers, yearly as u64, carry as u64, out);
     Carried {
-        total,
+        total: sum / 40_000,
         carry: (sum % 40_000) as u32,
     }
 }
