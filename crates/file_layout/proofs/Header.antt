@@ -1,16 +1,14 @@
--- What a header that passed questions 1 to 3 tells, by name, and that such a file is small. Assumes nothing.
-use Rattle.std.specs.Prelude.{Err}
+-- What a header that passed questions 1 to 3 tells, by name. Assumes nothing.
 use mathlib.Core.Path.{◌≡◌}
 use mathlib.Core.List.{List}
-use Prim.Native.Nat.{ℕ, ◌*◌, ◌≤◌, ◌<◌}
-use native.Mathlib.Nat.{mul-le-mul}
+use Prim.Native.Nat.{ℕ, ◌≤◌}
 use native.Mathlib.Omega.{arith}
 use lib.ListN.{length}
 use borrow.Author.Tests.{leb-true, eqb-true}
 use Rattle.big_endian.specs.BigEndian.{byte_at, word_at}
 use Rattle.refusal.specs.Questions.{Pass}
 use Rattle.refusal.specs.declared.Refusal.TheVariants.{NoMark, WrongVersion, WrongLength}
-use Rattle.refusal.proofs.Questions.{refuses, ask-passed, then-first, then_next, both}
+use Rattle.refusal.proofs.Questions.{ask-passed, then-first, then_next, both}
 use Rattle.file_layout.specs.declared.Layout.{Layout}
 use Rattle.file_layout.specs.Header.{mark, header_length, layout_of, file_length, mark_question, version_question, length_question, header_check}
 use Rattle.file_layout.specs.Inside.{Sound, LaidOut}
@@ -50,10 +48,6 @@ marked file h =
       letter2 = eqb-true _ _ all.1;
     }
 
-pub no-mark : (file : List ℕ) → (Marked file → ⊥) → Err NoMark ≡ mark_question file
-unfolding mark_question
-no-mark file never = refuses _ NoMark (λ h. never (marked file h))
-
 -- question 3 passed
 pub record Counted (layout : Layout) (file : List ℕ) : Type 0 where
   pub some : 1 ≤ layout.count
@@ -67,12 +61,8 @@ counted layout file h =
     let ends = both _ _ all.0 in
     record { some = leb-true _ _ ends.0; most = leb-true _ _ ends.1; whole = eqb-true _ _ all.1 }
 
-pub wrong-length : (layout : Layout) (file : List ℕ) → (Counted layout file → ⊥) → Err WrongLength ≡ length_question layout file
-unfolding length_question
-wrong-length layout file never = refuses _ WrongLength (λ h. never (counted layout file h))
-
-pub header-long : (file : List ℕ) → mark_question file ≡ Pass → header_length ≤ length file
-header-long file h = (marked file h).long
+pub header_long : (file : List ℕ) → mark_question file ≡ Pass → header_length ≤ length file
+header_long file h = (marked file h).long
 
 pub headed : (file : List ℕ) → header_check file ≡ Pass → Headed file
 unfolding header_check version_question
@@ -91,6 +81,5 @@ headed file h =
       laid = record { sound = sound file; whole = count.whole };
     }
 
--- a file of at most 11 small profiles is small
-pub files-small : (n k : ℕ) → n ≤ 11 → k < 65_536 → n * k ≤ 11 * 65_536
-files-small n k hn hk = mul-le-mul {m₂ = 65_536} hn (omega arith)
+pub laid_out : (file : List ℕ) → header_check file ≡ Pass → LaidOut (layout_of file) file
+laid_out file h = (headed file h).laid
