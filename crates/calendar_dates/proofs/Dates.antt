@@ -146,6 +146,19 @@ day-of-year-range d h =
     let p = parts d h in
     (omega arith, omega (arith, months-over d.year d.month 13 p.month-from (omega arith), months-all d.year))
 
+-- the year and the t of a day of the span
+pub day_in_range : (d : Date) {t : ℕ} → is_date d ≡ true → t ≡ day_of_year d → (1996 ≤ d.year) × (d.year ≤ 2099) × (1 ≤ t) × (t ≤ 366)
+day_in_range d h e =
+    let p = parts d h in
+    let range = day-of-year-range d h in
+    (p.year-from, p.year-to, omega arith, omega (arith, leap-small d.year))
+
+-- all but the last month
+pub months_small : (year m : ℕ) → days_of_months year m ≤ 31 * m
+unfolding days_of_months
+months_small year zero = omega arith
+months_small year (suc m) = omega (arith, months_small year m, month-small year (suc m))
+
 -- one year more
 pub years-next : (n : ℕ) → days_of_years (n + 1) ≡ days_of_years n + (365 + leap_days (1996 + n))
 unfolding days_of_years
