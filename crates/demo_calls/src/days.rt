@@ -1,8 +1,6 @@
 // The day enquiry at work: for each date below a line with the date, its weekday, t, season with day type, and value count, or the
 // refusal.
-use crate::lines;
-use calendar_days::Season;
-use call_day::{Day, DayAnswer};
+use calendar_dates::Date;
 use std::io;
 
 // The federal holidays of 2000, of source document 000.
@@ -25,61 +23,24 @@ const DATES: [u32; 19] = [
     21000101,
 ];
 
+// The dates asked about with the works agreement's list.
+const AGREED_DATES: [u32; 5] = [19991223, 19991224, 19991225, 19991231, 20001224];
+
 pub fn show(rt: &HostRuntime) -> io::Result<()> {
-    let mut i: usize = 0;
-    while i < 19 {
-        write_federal(rt, DATES[i])?;
-        i += 1;
+    for date in DATES {
+        show_day(rt, date, &HOLIDAYS)?;
     }
-    show_agreed(rt)?;
-    write_repeated(rt)
-}
-
-fn show_agreed(rt: &HostRuntime) -> io::Result<()> {
-    write_agreed(rt, 19991223)?;
-    write_agreed(rt, 19991224)?;
-    write_agreed(rt, 19991225)?;
-    write_agreed(rt, 19991231)?;
-    write_agreed(rt, 20001224)
-}
-
-fn write_federal(rt: &HostRuntime, date: u32) -> io::Result<()> {
-    write_answer(rt, date, &HOLIDAYS)
-}
-
-fn write_agreed(rt: &HostRuntime, date: u32) -> io::Result<()> {
-    write_answer(rt, date, &AGREED)
-}
-
-fn write_repeated(rt: &HostRuntime) -> io::Result<()> {
-    write_answer(rt, 20000101, &REPEATED)
+    for date in AGREED_DATES {
+        show_day(rt, date, &AGREED)?;
+    }
+    show_day(rt, 20000101, &REPEATED)
 }
 
 // One line.
-fn write_answer(rt: &HostRuntime, date: u32, holidays: &[u32]) -> io::Result<()> {
-    lines::write_date(rt, date)?;
-    let answer = call_day::enquire(date, holidays);
-    match answer {
-        Ok(day) => write_day(rt, day)?,
-        Err(v) => {
-            lines::write_refusal(rt, v.number(), v.place())?
-        }
-    }
-    println!(rt; "")
-}
-
-fn write_day(rt: &HostRuntime, day: Day) -> io::Result<()> {
-    lines::write_next(rt, day.weekday as u64)?;
-    lines::write_next(rt, day.t as u64)?;
-    print!(rt; " {}", season_letter(day.season) as char)?;
-    lines::write_number(rt, call_day::day_type_digit(day.day_type) as u64)?;
-    lines::write_next(rt, day.value_count as u64)
-}
-
-fn season_letter(s: Season) -> u8 {
-    match s {
-        Season::Winter => b'W',
-        Season::Summer => b'S',
-        Season::Transition => b'T',
+fn show_day(rt: &HostRuntime, number: u32, holidays: &[u32]) -> io::Result<()> {
+    let date = Date::from(number);
+    match call_day::enquire(number, holidays) {
+        Ok(day) => println!(rt; "{date} {day}"),
+        Err(refusal) => println!(rt; "{date} refused {refusal}"),
     }
 }

@@ -3,7 +3,6 @@
 #![tactic(auto)]
 
 mod days;
-mod lines;
 mod located;
 mod two_days;
 
@@ -11,6 +10,11 @@ use std::io;
 
 fn main(rt: HostRuntime) -> io::Result<()> {
     days::show(&rt)?;
-    located::show(&rt)?;
-    two_days::show(&rt)
+    // a shop's file: G0, whose every value is 1001
+    let mut file = [0u8; 1735];
+    if let Err(refusal) = file_write::write(&[1], &[1001; 864], &mut file) {
+        return println!(rt; "refused {refusal}");
+    }
+    located::show(&rt, &file)?;
+    two_days::show(&rt, &file)
 }

@@ -3,50 +3,35 @@
 // `main` returns an error only where that cannot be written either.
 #![tactic(auto)]
 
-ghost use Rattle.std.specs.Prelude.{◌≡◌, ◌≤◌, length, take, IfOk};
-ghost use Rattle.program_answer.specs.Accepted.{page_length};
+ghost use Rattle.std.specs.Prelude.{◌≡◌, ◌≤◌, length};
 ghost use Rattle.program_response.specs.Responding.{page_after};
 
-use program_response::Response;
 use std::io;
 use std::io::{Read, Write};
 
 fn main(rt: HostRuntime) -> io::Result<()> {
-    // one byte more than an input may have, so that a longer one is told from the longest
-    let mut input = [0u8; 65_537];
     let mut page = [0u8; program_response::PAGE_LENGTH];
-    match read_full(&mut rt.reader(), &mut input) {
-        Ok(count) => print(&rt, &input, count, &mut page),
+    match read_input(&rt) {
+        Ok(input) => print(&rt, &input, &mut page),
         Err(_) => eprintln!(rt; "slp: the input could not be read to its end"),
     }
 }
 
-// Reads until `input` is full or the reader is at its end, and returns how many bytes it put at the start of `input`.
-fn read_full(reader: &mut impl Read, input: &mut [u8]) -> io::Result<usize>
-    ensures { IfOk result (λ n. n ≤ length input.new) }
-{
-    let mut done: usize = 0;
-    while done < input.len() {
-        let n = reader.read(&mut input[done..])?;
-        if n == 0 {
-            return Ok(done);
-        }
-        done += n;
-    }
-    Ok(done)
+// Reads to the end, but no more than one byte above what an input may have, so that a longer one is told from the longest.
+fn read_input(rt: &HostRuntime) -> io::Result<Vec<u8>> {
+    let mut input = Vec::new(rt.alloc());
+    rt.reader().take(65_537).read_to_end(&mut input)?;
+    Ok(input)
 }
 
-// Prints the response to the input's first `count` bytes, which stands on the page then.
-fn print(rt: &HostRuntime, input: &[u8], count: usize, page: &mut [u8]) -> io::Result<()>
-    requires count_in_bounds { count ≤ length input.now }
-    requires page_length_in_bounds { page_length ≤ length page.old }
-    ensures { page.new ≡ page_after (take count input.now) page.old }
+// Prints the response to an input, which stands on the page then.
+fn print(rt: &HostRuntime, input: &[u8], page: &mut [u8]) -> io::Result<()>
+    ensures { page.new ≡ page_after input.now page.old }
 {
-    let answer = program_response::respond(&input[0..count], page);
-    let Ok(written) = answer else {
+    let Ok(written) = program_response::respond(input, page) else {
         return Ok(()); // not reached: theorem `EnoughRoom`
     };
-    match io::writer(rt).write_all(&page[0..written]) {
+    match io::writer(rt).write_all(&page[..written]) {
         Ok(()) => Ok(()),
         Err(_) => eprintln!(rt; "slp: the output could not be written"),
     }
