@@ -78,7 +78,8 @@ impl CalendarDay {
 
     // t, counted from 1 January.
     pub fn day_of_year(self) -> u32
-        ensures { result ≡ day_of_year self }
+        ensures value { result ≡ day_of_year self }
+        ensures in_year { (1 ≤ result) × (result ≤ 366) }
     {
         self.t
     }

@@ -7,6 +7,7 @@ ghost use Rattle.std.specs.Prelude.{◌≡◌, true, ◌≤◌};
 ghost use Rattle.calendar_dates.specs.Dates.{date_of, month_length, is_date, next_day};
 
 pub use day::CalendarDay;
+use std::fmt;
 
 // Three numbers, as a number yyyymmdd has them; `is_date` says whether they are a date of the span.
 #[derive(Clone, Copy, Debug, PartialEq, Eq, PartialOrd, Ord)]
@@ -43,6 +44,13 @@ impl From<u32> for Date {
             month: number / 100 % 100,
             day: number % 100,
         }
+    }
+}
+
+// As yyyy-mm-dd.
+impl fmt::Display for Date {
+    fn fmt<W: fmt::Write>(&self, f: &mut fmt::Formatter<W>) -> fmt::Result {
+        write!(f, "{:04}-{:02}-{:02}", self.year, self.month, self.day)
     }
 }
 
