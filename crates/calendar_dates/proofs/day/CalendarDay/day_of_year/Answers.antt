@@ -6,4 +6,5 @@ use Rattle.calendar_dates.proofs.day.CalendarDay.day_of_year.Goals as goal
 pub returns-clause-in_year : goal.returns-clause-in_year
 returns-clause-in_year c =
     let own = c.self.invariant in
-    (day_in_range c.self.inside.date own.0 own.1.1).1.1
+    let range = day_in_range c.self.inside.date own.0.0 own.1 in
+    (range.0.1, range.1)
