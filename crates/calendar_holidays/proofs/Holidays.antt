@@ -1,36 +1,45 @@
--- A place in a list that is in order: the dates rise, so a date is listed just where its place has it. And what is passed on one
--- day is passed on a later one. By induction over the list.
+-- A list that is in order rises, so a date is listed just where it comes before a later one.
 -- Assumes nothing.
-use mathlib.Core.Path.{◌≡◌, refl, sym}
+use mathlib.Core.Path.{◌≡◌, refl, ap}
 use mathlib.Core.Bool.{Bool, true, false, ◌&&◌, ◌||◌}
 use mathlib.Core.List.{List, [], ◌∷◌}
-use Prim.Native.Nat.{ℕ, zero, suc, ◌+◌, ◌-◌, ◌*◌, ◌≤◌, ◌<◌}
+use Prim.Native.Nat.{ℕ, suc, ◌+◌, ◌-◌, ◌*◌, ◌≤◌, ◌<◌}
 use native.Mathlib.Omega.{arith}
+use native.Mathlib.Numerals.{add-one}
 use lib.Dec.{ltb, eqb}
 use lib.ListN.{length, get_or}
-use borrow.Author.Tests.{eq-eqb, ltb-true, eqb-true, ne_eqb, eqb-false, ltb-false}
+use Rattle.std.specs.List.{slice_index, list_any}
+use Rattle.std.specs.List.Sorted.{IsStrictlyIncreasing}
+use Rattle.std.proofs.lemmas.List.Kept.{AllPairs-from_increasing}
+use borrow.Author.Tests.{ltb-true, ne_eqb}
 use Rattle.refusal.specs.declared.Refusal.TheVariants.{BadHoliday}
 use Rattle.refusal.specs.Questions.{Pass}
 use Rattle.refusal.proofs.Questions.{ask-passed, each-passed, both}
 use Rattle.calendar_dates.specs.Dates.{date_of, is_date}
 use Rattle.calendar_holidays.specs.Holidays.{listed, holiday_question, holidays_question}
-use Rattle.calendar_holidays.specs.Inside.{Passed, Reached}
 
--- listed or not
-there : (date : ℕ) (xs : List ℕ) (i : ℕ) → i < length xs → get_or xs i 0 ≡ date → listed date xs ≡ true
+-- whether a list has a date is what the library's search tells
+pub listed_any : (date : ℕ) (xs : List ℕ) → list_any (λ x. eqb x date) xs ≡ listed date xs
 unfolding listed
-there date [] i h e = absurd (omega arith)
-there date (x ∷ xs) zero h e = rw (eq-eqb x date e)
-there date (x ∷ xs) (suc i) h e = go (eqb x date) (there date xs i (omega arith) e)
-  where
-    go : (b : Bool) {rest : Bool} → rest ≡ true → (b || rest) ≡ true
-    go true r = refl
-    go false r = r
+listed_any date [] = refl
+listed_any date (x ∷ xs) = ap (λ (rest : Bool). eqb x date || rest) (listed_any date xs)
 
-nowhere : (date : ℕ) (xs : List ℕ) → ((i : ℕ) → i < length xs → get_or xs i 0 ≡ date → ⊥) → listed date xs ≡ false
+-- an earlier entry is passed over
+pub listed-behind : (date : ℕ) (whole : List ℕ) {x : ℕ} {xs : List ℕ} → whole ≡ x ∷ xs → x < date → listed date xs ≡ listed date whole
+unfolding listed
+listed-behind date whole {x} e h = rw (e, ne_eqb x date (λ e. omega arith))
+
+-- of nothing nothing is listed
+pub listed-none : (date : ℕ) (whole : List ℕ) → length whole ≡ 0 → false ≡ listed date whole
+unfolding listed
+listed-none date [] e = refl
+listed-none date (x ∷ xs) e = absurd (omega arith)
+
+-- where all entries are later, a date is not listed
+nowhere : (date : ℕ) (xs : List ℕ) → ((i : ℕ) → i < length xs → date < slice_index xs i) → false ≡ listed date xs
 unfolding listed
 nowhere date [] h = refl
-nowhere date (x ∷ xs) h = rw (ne_eqb x date (h 0 (omega arith)), nowhere date xs (λ i l. h (suc i) (omega arith)))
+nowhere date (x ∷ xs) h = rw (ne_eqb x date (λ e. omega (arith, h 0 (omega arith)))) (nowhere date xs (λ i l. h (suc i) (omega arith)))
 
 -- the dates of a list in order rise
 later-part : (a b : Bool) → a ≡ false → (a || b) ≡ true → b ≡ true
@@ -47,7 +56,7 @@ later-than-before holidays index h asked =
     ltb-true (get_or holidays (index - 1) 0) (get_or holidays index 0) (later-part (eqb index 0) rising (ne_eqb index 0 (λ e. omega arith)) tests.1)
 
 module _ (holidays : List ℕ) (in_order : holidays_question holidays ≡ Pass) where
-  rises : (i : ℕ) → i + 1 < length holidays → get_or holidays i 0 < get_or holidays (i + 1) 0
+  pub rises : IsStrictlyIncreasing holidays
   unfolding holidays_question
   rises i h =
       let at : 0 + (i + 1) * 1 ≡ i + 1 = omega arith in
@@ -55,47 +64,21 @@ module _ (holidays : List ℕ) (in_order : holidays_question holidays ≡ Pass) 
       let previous : i + 1 - 1 ≡ i = omega arith in
       rw previous at (later-than-before holidays (i + 1) (omega arith) asked)
 
-  above : (i k : ℕ) → i + k + 1 < length holidays → get_or holidays i 0 < get_or holidays (i + k + 1) 0
-  above i zero h = let e : i + 0 + 1 ≡ i + 1 = omega arith in rw e (rises i (omega arith))
-  above i (suc k) h =
-      let e : i + suc k + 1 ≡ i + k + 1 + 1 = omega arith in
-      rw e (omega (arith, above i k (omega arith), rises (i + k + 1) (omega arith)))
-
-  module _ {at date : ℕ} (r : Reached holidays at date) where
-    pub listed-there : at < length holidays → eqb (get_or holidays at 0) date ≡ listed date holidays
-    listed-there h = go (eqb (get_or holidays at 0) date) refl
-      where
-        behind : (i : ℕ) → at < i → i < length holidays → get_or holidays at 0 < get_or holidays i 0
-        behind i l k = let e : at + (i - at - 1) + 1 ≡ i = omega arith in rw e at (above at (i - at - 1) (omega arith))
-
-        other : (get_or holidays at 0 ≡ date → ⊥) → (i : ℕ) → i < length holidays → get_or holidays i 0 ≡ date → ⊥
-        other ne i l e = side (ltb i at) refl (ltb at i) refl
-          where
-            side : (a : Bool) → ltb i at ≡ a → (b : Bool) → ltb at i ≡ b → ⊥
-            side true a b f = omega (arith, r.passed.earlier i (ltb-true i at a))
-            side false a true f = omega (arith, r.not_earlier h, behind i (ltb-true at i f) l)
-            side false a false f =
-                let same : at ≡ i = omega (arith, ltb-false i at a, ltb-false at i f) in
-                ne (rw same e)
-
-        go : (b : Bool) → eqb (get_or holidays at 0) date ≡ b → b ≡ listed date holidays
-        go true e = sym (there date holidays at h (eqb-true _ _ e))
-        go false e = sym (nowhere date holidays (other (eqb-false _ _ e)))
-
-    pub listed-nowhere : length holidays ≤ at → false ≡ listed date holidays
-    listed-nowhere h = sym (nowhere date holidays (λ i l e. omega (arith, r.passed.earlier i (omega arith))))
-
--- one more entry is passed
-pub one_more : {holidays : List ℕ} {at date : ℕ} → at < length holidays → get_or holidays at 0 < date → Passed holidays at date → Passed holidays (at + 1) date
-one_more {holidays} {at} {date} h l p = record { inside = omega arith; earlier = λ i k. side i (ltb i at) refl k }
+-- the entries behind the first rise too
+pub rest-rises : (whole : List ℕ) {x : ℕ} {xs : List ℕ} → whole ≡ x ∷ xs → IsStrictlyIncreasing whole → IsStrictlyIncreasing xs
+rest-rises whole {x} {xs} e rising i h = go (rw e at rising)
   where
-    side : (i : ℕ) (b : Bool) → ltb i at ≡ b → i < at + 1 → get_or holidays i 0 < date
-    side i true e k = p.earlier i (ltb-true i at e)
-    side i false e k = let same : i ≡ at = omega (arith, ltb-false i at e) in rw same l
+    go : IsStrictlyIncreasing (x ∷ xs) → slice_index xs i < slice_index xs (i + 1)
+    go r = simp add-one (simp add-one at (r (i + 1) (omega arith)))
 
--- the place before the first day, and that of a later day
-pub from_start : (holidays : List ℕ) (date : ℕ) → Passed holidays 0 date
-from_start holidays date = record { inside = omega arith; earlier = λ i h. absurd (omega arith) }
+-- a date that is no later than the first entry is that entry or not listed
+pub listed-first : (date : ℕ) (whole : List ℕ) {x : ℕ} {xs : List ℕ} → whole ≡ x ∷ xs → IsStrictlyIncreasing whole → date ≤ x → eqb x date ≡ listed date whole
+unfolding listed
+listed-first date whole {x} {xs} e rising h = rw e (go (eqb x date) refl)
+  where
+    later : (i : ℕ) → i < length xs → x < slice_index xs i
+    later i l = AllPairs-from_increasing (x ∷ xs) (rw e at rising) 0 (suc i) 0 (omega arith) (omega arith)
 
-pub on-later-day : {holidays : List ℕ} {at date later : ℕ} → date < later → Reached holidays at date → Passed holidays at later
-on-later-day h r = record { inside = r.passed.inside; earlier = λ i l. omega (arith, r.passed.earlier i l) }
+    go : (b : Bool) → eqb x date ≡ b → b ≡ (b || listed date xs)
+    go true e = refl
+    go false e = nowhere date xs (λ i l. omega (arith, later i l))
