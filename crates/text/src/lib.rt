@@ -1,12 +1,11 @@
 // Text (document 01, "The program"): numbers and dates put into a lent page, one behind the other.
 #![tactic(auto)]
 
-ghost use Rattle.std.specs.Prelude.{◌≡◌, true, [], ◌∷◌, ◌+◌, ◌≤◌, ◌<◌, length};
-ghost use Rattle.calendar_dates.specs.Dates.{is_date};
-ghost use Rattle.text.specs.Inside.{Put, last_digits};
+ghost use Rattle.std.specs.Prelude.{◌≡◌, [], ◌∷◌, ◌<◌, length};
+ghost use Rattle.text.specs.Inside.{Put, Room, last_digits};
 ghost use Rattle.text.specs.Text.{decimal, two_digits, date_text};
 
-use calendar_dates::Date;
+use calendar_dates::CalendarDay;
 
 pub const SPACE: u8 = b' ';
 
@@ -14,37 +13,74 @@ pub const HYPHEN: u8 = b'-';
 
 pub const LINE_FEED: u8 = b'\n';
 
-// Puts one byte at `at` and answers the place behind it.
-pub fn put_byte(byte: u8, page: &mut [u8], at: usize) -> usize
-    requires { at + 1 ≤ length page.old }
-    ensures { Put (byte ∷ []) page.old at result page.new }
-{
-    page[at] = byte;
-    at + 1
+// A lent page, and the place behind what was put into it so far.
+#[derive(Drop)]
+pub struct Page<'a> {
+    pub bytes: &'a mut [u8],
+    pub at: usize,
 }
 
-// Puts a word.
-pub fn put_word(word: &[u8], page: &mut [u8], at: usize) -> usize
-    requires { at + length word.now ≤ length page.old }
-    ensures { Put word.now page.old at result page.new }
-{
-    let mut i: usize = 0;
-    while i < word.len() {
-        page[at + i] = word[i];
-        i += 1;
+impl<'a> Page<'a> {
+    // Puts one byte.
+    pub fn put_byte(&mut self, byte: u8)
+        requires { Room 1 self.old }
+        ensures { Put (byte ∷ []) self.old self.new }
+    {
+        self.bytes[self.at] = byte;
+        self.at += 1;
     }
-    at + i
-}
 
-// Puts two digits of a number below 100.
-pub fn put_two_digits(n: u32, page: &mut [u8], at: usize) -> usize
-    requires n_bound { n < 100 }
-    requires at_in_bounds { at + 2 ≤ length page.old }
-    ensures { Put (two_digits n) page.old at result page.new }
-{
-    page[at] = 48 + (n / 10) as u8;
-    page[at + 1] = 48 + (n % 10) as u8;
-    at + 2
+    // Puts a word.
+    pub fn put_word(&mut self, word: &[u8])
+        requires { Room (length word.now) self.old }
+        ensures { Put word.now self.old self.new }
+    {
+        let end = self.at + word.len();
+        self.bytes[self.at..end].copy_from_slice(word);
+        self.at = end;
+    }
+
+    // Puts two digits of a number below 100.
+    pub fn put_two_digits(&mut self, n: u32)
+        requires n_bound { n < 100 }
+        requires room { Room 2 self.old }
+        ensures { Put (two_digits n) self.old self.new }
+    {
+        self.put_byte(b'0' + (n / 10) as u8);
+        self.put_byte(b'0' + (n % 10) as u8);
+    }
+
+    // Puts the last digits of a number, as many as `places` says.
+    pub fn put_last_digits(&mut self, n: u64, places: usize)
+        requires { Room places self.old }
+        ensures { Put (last_digits places n) self.old self.new }
+    {
+        let end = self.at + places;
+        write_digits(n, &mut self.bytes[self.at..end]);
+        self.at = end;
+    }
+
+    // Puts a number in decimal.
+    pub fn put_decimal(&mut self, n: u64)
+        requires { Room 20 self.old }
+        ensures { Put (decimal n) self.old self.new }
+    {
+        self.put_last_digits(n, digit_count(n));
+    }
+
+    // Puts a date as yyyy-mm-dd.
+    pub fn put_date(&mut self, day: CalendarDay)
+        requires { Room 10 self.old }
+        ensures { Put (date_text day) self.old self.new }
+    {
+        let date = day.date();
+        self.put_two_digits(date.year / 100);
+        self.put_two_digits(date.year % 100);
+        self.put_byte(HYPHEN);
+        self.put_two_digits(date.month);
+        self.put_byte(HYPHEN);
+        self.put_two_digits(date.day);
+    }
 }
 
 // How many digits a number has in decimal.
@@ -60,39 +96,13 @@ pub fn digit_count(n: u64) -> usize
     places
 }
 
-// Puts the last digits of a number, as many as `places` says.
-pub fn put_last_digits(n: u64, places: usize, page: &mut [u8], at: usize) -> usize
-    requires { at + places ≤ length page.old }
-    ensures { Put (last_digits places n) page.old at result page.new }
+// Writes the last digits of a number, as many as there are places.
+fn write_digits(n: u64, places: &mut [u8])
+    ensures { places.new ≡ last_digits (length places.old) n }
 {
-    let mut left = places;
     let mut rest = n;
-    while 0 < left {
-        left -= 1;
-        page[at + left] = 48 + (rest % 10) as u8;
+    for place in (0..places.len()).rev() {
+        places[place] = b'0' + (rest % 10) as u8;
         rest /= 10;
     }
-    at + places
-}
-
-// Puts a number in decimal.
-pub fn put_decimal(n: u64, page: &mut [u8], at: usize) -> usize
-    requires { at + 20 ≤ length page.old }
-    ensures { Put (decimal n) page.old at result page.new }
-{
-    put_last_digits(n, digit_count(n), page, at)
-}
-
-// Puts a date as yyyy-mm-dd.
-pub fn put_date(d: Date, page: &mut [u8], at: usize) -> usize
-    requires d_value { is_date d ≡ true }
-    requires at_in_bounds { at + 10 ≤ length page.old }
-    ensures { Put (date_text d) page.old at result page.new }
-{
-    let at = put_two_digits(d.year / 100, page, at);
-    let at = put_two_digits(d.year % 100, page, at);
-    let at = put_byte(HYPHEN, page, at);
-    let at = put_two_digits(d.month, page, at);
-    let at = put_byte(HYPHEN, page, at);
-    put_two_digits(d.day, page, at)
 }
