@@ -7,7 +7,7 @@ ghost use Rattle.polynomial.specs.Polynomial.{X, Limited};
 ghost use Rattle.polynomial.specs.Inside.{Day};
 
 // The five coefficients, for t^4 down to t^0, in units of 10^-12.
-#[derive(Clone, Copy)]
+#[derive(Clone, Copy, Debug, PartialEq, Eq)]
 pub struct Coefficients {
     pub t4: i64,
     pub t3: i64,

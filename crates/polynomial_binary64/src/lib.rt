@@ -2,12 +2,15 @@
 // numbers that they are.
 #![tactic(auto)]
 
-ghost use Rattle.std.specs.Prelude.{◌≡◌, ◌^◌, ◌≤◌, from_bits, unsigned_abs};
+mod allowed;
+
+ghost use Rattle.std.specs.Prelude.{◌≡◌, ◌^◌, ◌≤◌, from_bits};
 ghost use Rattle.std.specs.Float.{binary64};
 ghost use Rattle.polynomial.specs.Polynomial.{implied};
-ghost use Rattle.polynomial_binary64.specs.Binary64.{allowed, Allowed, coefficients_of, binary64_of};
+ghost use Rattle.polynomial_binary64.specs.Binary64.{allowed, coefficients_of, binary64_of};
 ghost use Rattle.polynomial_binary64.specs.Inside.{InRange};
 
+pub use allowed::AllowedPolynomial;
 use polynomial::Coefficients;
 
 // The five coefficients, for t^4 down to t^0, in units of 10^-12.
@@ -21,17 +24,6 @@ pub struct Polynomial {
     pub t0: f64,
 }
 
-// The size of a whole number. The size of the least i64 is no i64, so 1 is added after the cast.
-fn size_of(whole: i64) -> u64
-    ensures { result ≡ unsigned_abs whole }
-{
-    if whole < 0 {
-        (-1 - whole) as u64 + 1
-    } else {
-        whole as u64
-    }
-}
-
 // The question of `is_allowed`, of a number from -2^63 to below 2^63. Zero passes at once. Otherwise x is
 // taken without its fraction: as a binary64 number that has the bits of x only where x is a whole number and not negative zero.
 fn is_allowed_in_range(x: f64, most: u64) -> bool
@@ -43,7 +35,7 @@ fn is_allowed_in_range(x: f64, most: u64) -> bool
         return true;
     }
     let whole = std::num::truncating_f64_to_i64(x);
-    if size_of(whole) > most {
+    if whole.unsigned_abs() > most {
         return false;
     }
     let back = f64::to_bits(whole as f64);
@@ -76,16 +68,18 @@ pub fn is_allowed_pattern(bits: u64, most: u64) -> bool
 }
 
 // The coefficients as whole numbers.
-pub fn coefficients(p: Polynomial) -> Coefficients
-    requires { Allowed p }
-    ensures { result ≡ coefficients_of p }
-{
-    Coefficients {
-        t4: p.t4 as i64,
-        t3: p.t3 as i64,
-        t2: p.t2 as i64,
-        t1: p.t1 as i64,
-        t0: p.t0 as i64,
+impl From<AllowedPolynomial> for Coefficients {
+    ghost from_gives = { λ p c. c ≡ coefficients_of p.polynomial };
+
+    fn from(p: AllowedPolynomial) -> Coefficients {
+        let p = p.polynomial;
+        Coefficients {
+            t4: p.t4 as i64,
+            t3: p.t3 as i64,
+            t2: p.t2 as i64,
+            t1: p.t1 as i64,
+            t0: p.t0 as i64,
+        }
     }
 }
 

@@ -6,11 +6,11 @@ ghost use Rattle.std.specs.Float.{binary64};
 ghost use Rattle.std.specs.Float.Ieee.{in_signed};
 ghost use Rattle.polynomial.specs.Inside.{Day};
 ghost use Rattle.polynomial.specs.Polynomial.{X, in_range, usable};
-ghost use Rattle.polynomial_binary64.specs.Binary64.{Allowed, whole, coefficients_of};
+ghost use Rattle.polynomial_binary64.specs.Binary64.{whole, coefficients_of};
 ghost use Rattle.polynomial_horner.specs.Horner.{horner};
 ghost use Rattle.polynomial_horner.specs.Inside.{Constant};
 
-use polynomial_binary64::Polynomial;
+use polynomial_binary64::{AllowedPolynomial, Polynomial};
 
 // X of the day t, by Horner's rule: the sum so far times t, and the next coefficient added.
 pub fn horner(p: Polynomial, t: u32) -> f64
@@ -29,44 +29,39 @@ fn in_range(x: f64) -> bool
 }
 
 // Whether X is in range on the day t.
-fn day_in_range(p: Polynomial, t: u32) -> bool
-    requires allowed { Allowed p }
-    requires day { Day t }
-    ensures { result ≡ in_range (X (coefficients_of p) t) }
+fn day_in_range(p: AllowedPolynomial, t: u32) -> bool
+    requires { Day t }
+    ensures { result ≡ in_range (X (coefficients_of p.polynomial) t) }
 {
-    in_range(horner(p, t))
+    in_range(horner(p.polynomial, t))
 }
 
 // Whether X is in range on each of the 366 days. The answer of a day does not end the loop, so that the compiler can take several
 // days at once.
-fn every_day_in_range(p: Polynomial) -> bool
-    requires { Allowed p }
-    ensures { result ≡ usable (coefficients_of p) }
+fn every_day_in_range(p: AllowedPolynomial) -> bool
+    ensures { result ≡ usable (coefficients_of p.polynomial) }
 {
     let mut passed = true;
-    let mut done: u32 = 0;
-    while done < 366 {
-        passed = day_in_range(p, done + 1) & passed;
-        done += 1;
+    for done in 0..366 {
+        passed &= day_in_range(p, done + 1);
     }
     passed
 }
 
 // Whether the coefficients of t are all 0.
-fn is_constant(p: Polynomial) -> bool
-    requires { Allowed p }
-    ensures { result ≡ true → Constant (coefficients_of p) }
+fn is_constant(p: AllowedPolynomial) -> bool
+    ensures { result ≡ true → Constant (coefficients_of p.polynomial) }
 {
+    let p = p.polynomial;
     (p.t4 == 0.0) & (p.t3 == 0.0) & (p.t2 == 0.0) & (p.t1 == 0.0)
 }
 
 // Question 21: whether X is from 0 to 2 × 10^12 on all 366 days. A constant polynomial is asked once.
-pub fn is_usable(p: Polynomial) -> bool
-    requires { Allowed p }
-    ensures { result ≡ usable (coefficients_of p) }
+pub fn is_usable(p: AllowedPolynomial) -> bool
+    ensures { result ≡ usable (coefficients_of p.polynomial) }
 {
     if is_constant(p) {
-        return in_range(p.t0);
+        return in_range(p.polynomial.t0);
     }
     every_day_in_range(p)
 }

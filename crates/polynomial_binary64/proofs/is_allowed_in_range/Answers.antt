@@ -23,21 +23,21 @@ returns-then-pattern-eq0 c =
     (ap (of_bits binary64) (sym c.if-pattern-eq0.true) ∙ of_bits-to_bits binary64 c.args.x (holds c.well_formed.0.1))
     (allowed-zero c.args.most c.requires.limit))
 
-pub returns-then-size_of-most : goal.returns-then-size_of-most
-returns-then-size_of-most c =
+pub returns-then-unsigned_abs-most : goal.returns-then-unsigned_abs-most
+returns-then-unsigned_abs-most c =
     let is = part-is c.args.x c.truncating_f64_to_i64-whole.result c.truncating_f64_to_i64-whole.ensures in
     sym
     (not-allowed c.args.most c.args.x
-    (λ yes. omega (arith, c.size_of.ensures, ap nat_abs is, allowed-small c.args.most c.args.x yes)))
+    (λ yes. omega (arith, c.unsigned_abs.ensures, ap nat_abs is, allowed-small c.args.most c.args.x yes)))
 
 pub float_to_bits-back : goal.float_to_bits-back
 float_to_bits-back c =
     let z = part c.truncating_f64_to_i64-whole.result in
-    number-whole (of_int binary64 z) (whole-signed z (omega (arith, c.size_of.ensures)))
+    number-whole (of_int binary64 z) (whole-signed z (omega (arith, c.unsigned_abs.ensures)))
 
 pub returns : goal.returns
 returns c =
     let z = c.truncating_f64_to_i64-whole.result in
     same_bits c.args.most c.args.x (part z) (holds c.well_formed.0.1) c.requires.limit
     (part-is c.args.x z c.truncating_f64_to_i64-whole.ensures)
-    (omega (arith, c.size_of.ensures))
+    (omega (arith, c.unsigned_abs.ensures))

@@ -6,9 +6,9 @@ use Rattle.polynomial_horner.proofs.day_in_range.Goals as goal
 
 pub in_range-requires : goal.in_range-requires
 in_range-requires c =
-    (evaluated c.args.p c.args.t c.horner.result c.requires.allowed c.requires.day.0 c.requires.day.1 c.horner.ensures).is_whole
+    (evaluated c.args.p.polynomial c.args.t c.horner.result c.args.p.allowed c.requires.0 c.requires.1 c.horner.ensures).is_whole
 
 pub returns : goal.returns
 returns c =
-    let x = evaluated c.args.p c.args.t c.horner.result c.requires.allowed c.requires.day.0 c.requires.day.1 c.horner.ensures in
+    let x = evaluated c.args.p.polynomial c.args.t c.horner.result c.args.p.allowed c.requires.0 c.requires.1 c.horner.ensures in
     c.in_range.ensures ∙ ap in_range x.same

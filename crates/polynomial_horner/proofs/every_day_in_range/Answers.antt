@@ -10,4 +10,4 @@ pub returns : goal.returns
 unfolding usable
 returns c =
     let all : c.loop-done.done ≡ 366 = omega arith in
-    c.loop-done.invariant.1 ∙ ap (every_day (λ (t : ℕ). in_range (X (coefficients_of c.args.p) t))) all
+    c.loop-done.invariant ∙ ap (every_day (λ (t : ℕ). in_range (X (coefficients_of c.args.p.polynomial) t))) all

@@ -6,4 +6,4 @@ use Rattle.polynomial_horner.proofs.is_constant.Goals as goal
 
 pub returns : goal.returns
 unfolding of_bits
-returns c = constant _ (refl, refl) c.args.p c.requires
+returns c = constant _ (refl, refl) c.args.p.polynomial c.args.p.allowed
