@@ -2,19 +2,19 @@
 #![tactic(auto)]
 
 ghost use Rattle.std.specs.Prelude.{◌≡◌, true, ◌≤◌};
-ghost use Rattle.calendar_dates.specs.Dates.{is_date, weekday_of};
+ghost use Rattle.calendar_dates.specs.Dates.{is_date};
 ghost use Rattle.calendar_days.specs.Days.{month_day, from, to, season, is_eve, day_type_when, day_type, last_sunday, clock, value_count_under};
 
-use calendar_dates::Date;
+use calendar_dates::{CalendarDay, Date};
 
-#[derive(Clone, Copy)]
+#[derive(Clone, Copy, Debug, PartialEq, Eq)]
 pub enum Season {
     Winter,
     Summer,
     Transition,
 }
 
-#[derive(Clone, Copy)]
+#[derive(Clone, Copy, Debug, PartialEq, Eq)]
 pub enum DayType {
     Weekday,
     Saturday,
@@ -22,137 +22,129 @@ pub enum DayType {
 }
 
 // A day's season and day type, which tell its table of values.
-#[derive(Clone, Copy)]
+#[derive(Clone, Copy, Debug, PartialEq, Eq)]
 pub struct DayKind {
     pub season: Season,
     pub day_type: DayType,
 }
 
 // What the clocks do in a day's third hour.
-#[derive(Clone, Copy)]
+#[derive(Clone, Copy, Debug, PartialEq, Eq)]
 pub enum Clock {
     Unchanged,
     Forward,
     Back,
 }
 
+// Two weekdays by their numbers.
+const SATURDAY: u32 = 6;
+
+const SUNDAY: u32 = 7;
+
 // Month and day as one number, mmdd.
-fn month_day(d: Date) -> u32
-    requires { is_date d ≡ true }
-    ensures { result ≡ month_day d }
+#[tactic(auto, using(calendar_dates::proofs::Dates::parts))]
+fn month_day(date: Date) -> u32
+    requires { is_date date ≡ true }
+    ensures { result ≡ month_day date }
 {
-    d.month * 100 + d.day
+    date.month * 100 + date.day
 }
 
 // Whether a date is on or after that day and month of its year.
-fn from(d: Date, day: u32, month: u32) -> bool
-    requires { (is_date d ≡ true) × (day ≤ 31) × (month ≤ 12) }
-    ensures { result ≡ from d day month }
+#[tactic(auto, unfolding(crate::specs::Days::from))]
+fn from(date: Date, day: u32, month: u32) -> bool
+    requires { (is_date date ≡ true) × (day ≤ 31) × (month ≤ 12) }
+    ensures { result ≡ from date day month }
 {
-    month * 100 + day <= month_day(d)
+    month * 100 + day <= month_day(date)
 }
 
 // Whether a date is on or before that day and month of its year.
-fn to(d: Date, day: u32, month: u32) -> bool
-    requires { (is_date d ≡ true) × (day ≤ 31) × (month ≤ 12) }
-    ensures { result ≡ to d day month }
+#[tactic(auto, unfolding(crate::specs::Days::to))]
+fn to(date: Date, day: u32, month: u32) -> bool
+    requires { (is_date date ≡ true) × (day ≤ 31) × (month ≤ 12) }
+    ensures { result ≡ to date day month }
 {
-    month_day(d) <= month * 100 + day
+    month_day(date) <= month * 100 + day
 }
 
 // Source document 000, step 2, in its order.
-pub fn season_of(d: Date) -> Season
-    requires { is_date d ≡ true }
-    ensures { result ≡ season d }
+#[tactic(auto, unfolding(crate::specs::Days::season))]
+pub fn season_of(day: CalendarDay) -> Season
+    ensures { result ≡ season day }
 {
-    // "Winter: 1.11.-20.03.": over New Year, so either of its two parts
-    if from(d, 1, 11) || to(d, 20, 3) {
-        return Season::Winter;
+    let date = day.date();
+    if from(date, 1, 11) || to(date, 20, 3) {
+        // "Winter: 1.11.-20.03.": over New Year, so either of its two parts
+        Season::Winter
+    } else if from(date, 15, 5) && to(date, 14, 9) {
+        // "Sommer: 15.05.-14.09."
+        Season::Summer
+    } else {
+        // "Übergang: 21.03.-14.05. bzw. 15.09.-31.10.": what is left, by the theorem SeasonsSettled
+        Season::Transition
     }
-    // "Sommer: 15.05.-14.09."
-    if from(d, 15, 5) && to(d, 14, 9) {
-        return Season::Summer;
-    }
-    // "Übergang: 21.03.-14.05. bzw. 15.09.-31.10.": what is left, by the theorem SeasonsSettled
-    Season::Transition
 }
 
 // 24 and 31 December.
-fn is_eve(d: Date) -> bool
-    ensures { result ≡ is_eve d }
+#[tactic(auto, unfolding(crate::specs::Days::is_eve))]
+fn is_eve(date: Date) -> bool
+    ensures { result ≡ is_eve date }
 {
-    if d.month != 12 {
-        return false;
-    }
-    if d.day == 24 {
-        return true;
-    }
-    d.day == 31
+    date.month == 12 && matches!(date.day, 24 | 31)
 }
 
-// The day type, of a date whose weekday is known, and of which it is known whether it is a listed holiday.
+// The day type, where it is known whether the date is a listed holiday.
 #[tactic(auto, unfolding(crate::specs::Days::day_type_when))]
-pub fn day_type_when(d: Date, weekday: u32, holiday: bool) -> DayType
-    requires { weekday ≡ weekday_of d }
-    ensures { result ≡ day_type_when d holiday }
+pub fn day_type_when(day: CalendarDay, holiday: bool) -> DayType
+    ensures { result ≡ day_type_when day holiday }
 {
-    if weekday == 7 {
-        return DayType::Sunday;
+    if day.weekday() == SUNDAY || holiday {
+        DayType::Sunday
+    } else if is_eve(day.date()) || day.weekday() == SATURDAY {
+        DayType::Saturday
+    } else {
+        DayType::Weekday
     }
-    if holiday {
-        return DayType::Sunday;
-    }
-    if is_eve(d) {
-        return DayType::Saturday;
-    }
-    if weekday == 6 {
-        return DayType::Saturday;
-    }
-    DayType::Weekday
 }
 
-// The day type, of a date whose weekday is known.
-pub fn day_type_of(d: Date, weekday: u32, holidays: &[u32]) -> DayType
-    requires { (is_date d ≡ true) × (weekday ≡ weekday_of d) }
-    ensures { result ≡ day_type d holidays.now }
+// The day type, by the list of holidays.
+pub fn day_type_of(day: CalendarDay, holidays: &[u32]) -> DayType
+    ensures { result ≡ day_type day holidays.now }
 {
-    let holiday = calendar_holidays::is_listed(calendar_dates::number_of(d), holidays);
-    day_type_when(d, weekday, holiday)
+    let holiday = calendar_holidays::is_listed(day.number(), holidays);
+    day_type_when(day, holiday)
 }
 
-fn is_last_sunday(d: Date, weekday: u32) -> bool
-    requires { (is_date d ≡ true) × (weekday ≡ weekday_of d) }
-    ensures { result ≡ last_sunday d }
+#[tactic(auto, using(calendar_dates::proofs::Dates::parts), unfolding(crate::specs::Days::last_sunday))]
+fn is_last_sunday(day: CalendarDay) -> bool
+    ensures { result ≡ last_sunday day }
 {
-    if weekday != 7 {
-        return false;
-    }
-    calendar_dates::month_length(d.year, d.month) < d.day + 7
+    let date = day.date();
+    day.weekday() == SUNDAY && calendar_dates::month_length(date.year, date.month) < date.day + 7
 }
 
-// What the clocks do, on a date whose weekday is known.
-pub fn clock_of(d: Date, weekday: u32) -> Clock
-    requires { (is_date d ≡ true) × (weekday ≡ weekday_of d) }
-    ensures { result ≡ clock d }
+// What the clocks do.
+#[tactic(auto, unfolding(crate::specs::Days::clock))]
+pub fn clock_of(day: CalendarDay) -> Clock
+    ensures { result ≡ clock day }
 {
-    if !is_last_sunday(d, weekday) {
-        return Clock::Unchanged;
+    match day.date().month {
+        3 if is_last_sunday(day) => Clock::Forward,
+        10 if is_last_sunday(day) => Clock::Back,
+        _ => Clock::Unchanged,
     }
-    if d.month == 3 {
-        return Clock::Forward;
-    }
-    if d.month == 10 {
-        return Clock::Back;
-    }
-    Clock::Unchanged
 }
 
-pub fn value_count_under(c: Clock) -> u32
-    ensures { result ≡ value_count_under c }
-{
-    match c {
-        Clock::Unchanged => 96,
-        Clock::Forward => 92,
-        Clock::Back => 100,
+impl Clock {
+    // How many values a day has.
+    pub fn value_count(self) -> u32
+        ensures { result ≡ value_count_under self }
+    {
+        match self {
+            Clock::Unchanged => 96,
+            Clock::Forward => 92,
+            Clock::Back => 100,
+        }
     }
 }
