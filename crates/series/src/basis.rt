@@ -1,0 +1,70 @@
+// What quarter hours are made from: a group's values, its code and the list of holidays.
+ghost use Rattle.std.specs.Prelude.{◌≡◌, ◌≤◌, ℕ, get_or};
+ghost use Rattle.refusal.specs.Questions.{Pass};
+ghost use Rattle.calendar_dates.specs.Dates.{day_of_year};
+ghost use Rattle.calendar_holidays.specs.Holidays.{holidays_question};
+ghost use Rattle.calendar_period.specs.Period.{dates_from};
+ghost use Rattle.dynamisation.specs.Dynamisation.{F};
+ghost use Rattle.day_powers.specs.DayTable.{day_table_at, day_table_of};
+ghost use Rattle.day_powers.specs.DayQuarters.{basis};
+ghost use Rattle.day_powers.specs.Inside.{powers_by};
+ghost use Rattle.series.specs.Inside.{GroupValues};
+ghost use Rattle.series.specs.Kinds.{with_kinds};
+
+use crate::KindDays;
+use calendar_dates::CalendarDay;
+use calendar_days::DayKind;
+use calendar_holidays::HolidaysAhead;
+use calendar_period::Period;
+use std::marker::Model;
+
+// In a contract it is the record of the three: the values are a group's, and the list is in order.
+#[derive(Drop)]
+pub struct Basis<'a> {
+    values: &'a [u16],
+    group: u8,
+    holidays: &'a [u32],
+}
+
+impl<'a> Model for Basis<'a> {
+    ghost use Rattle.std.specs.Prelude.{◌≡◌};
+    ghost use Rattle.refusal.specs.Questions.{Pass};
+    ghost use Rattle.calendar_holidays.specs.Holidays.{holidays_question};
+    ghost use Rattle.day_powers.specs.DayQuarters.{Basis as Made, basis};
+    ghost use Rattle.series.specs.Inside.{GroupValues};
+
+    ghost Value = { Made };
+
+    ghost view = { λ b. basis b.values.now b.group b.holidays.now };
+
+    ghost invariant = { λ b. GroupValues b.values.now × (holidays_question b.holidays.now ≡ Pass) };
+}
+
+impl<'a> Basis<'a> {
+    pub fn new(values: &'a [u16], group: u8, holidays: &'a [u32]) -> Basis<'a>
+        requires group_values { GroupValues values.now }
+        requires in_order { holidays_question holidays.now ≡ Pass }
+        ensures { result ≡ basis values.now group holidays.now }
+    {
+        Basis {
+            values,
+            group,
+            holidays,
+        }
+    }
+
+    // The days of a period, each with its season and day type.
+    pub fn days(&self, period: Period) -> KindDays<'a>
+        ensures { result ≡ with_kinds self.now.holidays (dates_from period.days period.first) }
+    {
+        KindDays::new(period.dates(), HolidaysAhead::new(self.holidays))
+    }
+
+    // The powers of a day of a kind, before the clock change.
+    pub fn powers(&self, day: CalendarDay, kind: DayKind) -> [u32; 96]
+        ensures { result ≡ powers_by (F self.now.group (day_of_year day)) (day_table_at (day_table_of kind) self.now.values) }
+    {
+        let table = day_powers::day_table_index(kind.season, kind.day_type);
+        day_powers::powers_of(self.values, table, dynamisation::factor(self.group, day.day_of_year()))
+    }
+}

@@ -1,0 +1,65 @@
+// The days of a period, each with its season and day type.
+ghost use Rattle.std.specs.Prelude.{◌≡◌};
+ghost use Rattle.std.specs.Iterator.{YieldsFirst, item_count};
+ghost use Rattle.calendar_days.specs.Days.{season, day_type_when};
+ghost use Rattle.series.specs.Kinds.{with_kinds, Rising};
+
+use calendar_dates::CalendarDay;
+use calendar_days::DayKind;
+use calendar_holidays::HolidaysAhead;
+use calendar_period::Days;
+use std::marker::Model;
+
+// In a contract it is the list of the dates that are left, each with its kind. No date is earlier than one before it, so that the
+// holidays are gone through once.
+#[derive(Drop)]
+pub struct KindDays<'a> {
+    dates: Days,
+    ahead: HolidaysAhead<'a>,
+}
+
+impl<'a> Model for KindDays<'a> {
+    ghost use Rattle.std.specs.Prelude.{List};
+    ghost use Rattle.calendar_dates.specs.declared.Date.{Date};
+    ghost use Rattle.calendar_days.specs.declared.DayKind.{DayKind};
+    ghost use Rattle.series.specs.Kinds.{with_kinds, Rising};
+
+    ghost Value = { List (Date × DayKind) };
+
+    ghost view = { λ days. with_kinds days.ahead days.dates };
+
+    ghost invariant = { λ days. Rising days.dates };
+}
+
+impl<'a> KindDays<'a> {
+    pub(crate) fn new(dates: Days, ahead: HolidaysAhead<'a>) -> KindDays<'a>
+        requires { Rising dates }
+        ensures { result ≡ with_kinds ahead dates }
+    {
+        KindDays { dates, ahead }
+    }
+}
+
+// A day's season and day type, where it is known whether the date is a listed holiday.
+fn kind_on(day: CalendarDay, holiday: bool) -> DayKind
+    ensures { result ≡ record { season = season day; day_type = day_type_when day holiday } }
+{
+    DayKind {
+        season: calendar_days::season_of(day),
+        day_type: calendar_days::day_type_when(day, holiday),
+    }
+}
+
+impl<'a> Iterator for KindDays<'a> {
+    type Item = (CalendarDay, DayKind);
+
+    ghost next_gives = { YieldsFirst (λ days. days) };
+
+    ghost remaining = { item_count (λ days. days) };
+
+    fn next(&mut self) -> Option<(CalendarDay, DayKind)> {
+        let day = self.dates.next()?;
+        let holiday = self.ahead.lists(day.number());
+        Some((day, kind_on(day, holiday)))
+    }
+}
