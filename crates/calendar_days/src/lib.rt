@@ -6,6 +6,7 @@ ghost use Rattle.calendar_dates.specs.Dates.{is_date};
 ghost use Rattle.calendar_days.specs.Days.{month_day, from, to, season, is_eve, day_type_when, day_type, last_sunday, clock, value_count_under};
 
 use calendar_dates::{CalendarDay, Date};
+use std::fmt;
 
 #[derive(Clone, Copy, Debug, PartialEq, Eq)]
 pub enum Season {
@@ -14,11 +15,33 @@ pub enum Season {
     Transition,
 }
 
+// Its letter.
+impl fmt::Display for Season {
+    fn fmt<W: fmt::Write>(&self, f: &mut fmt::Formatter<W>) -> fmt::Result {
+        f.write_str(match self {
+            Season::Winter => "W",
+            Season::Summer => "S",
+            Season::Transition => "T",
+        })
+    }
+}
+
 #[derive(Clone, Copy, Debug, PartialEq, Eq)]
 pub enum DayType {
     Weekday,
     Saturday,
     Sunday,
+}
+
+// Its digit.
+impl fmt::Display for DayType {
+    fn fmt<W: fmt::Write>(&self, f: &mut fmt::Formatter<W>) -> fmt::Result {
+        f.write_str(match self {
+            DayType::Weekday => "1",
+            DayType::Saturday => "2",
+            DayType::Sunday => "3",
+        })
+    }
 }
 
 // A day's season and day type, which tell its table of values.
