@@ -1,3 +1,4 @@
 pub mod Days
 pub mod Dynamisation
+pub mod Households
 pub mod Scaled

@@ -13,10 +13,15 @@ pub product_small : (p f : ℕ) → p ≤ 20_000 → f ≤ 20_000 → p * scaled
 product_small p f hp hf = mul-le-mul {m₂ = 2_147_483_648} hp (omega arith)
 
 -- 10,000 times the product is above 2^30 × P × F by no more than 9,999 × P, which is below 2^30
-pub scaled-power : (p f : ℕ) → p ≤ 20_000 → (p * scaled f + 536_870_912) / 1_073_741_824 ≡ Q p f
+pub scaled_power : (p f : ℕ) → p ≤ 20_000 → (p * scaled f + 536_870_912) / 1_073_741_824 ≡ Q p f
 unfolding Q
-scaled-power p f hp =
+scaled_power p f hp =
     let same : p ≤ p = omega arith in
     let lower : p * (f * 1_073_741_824) ≤ p * (scaled f * 10_000) = mul-le-mul same (omega arith) in
     let upper : p * (scaled f * 10_000) ≤ p * (f * 1_073_741_824 + 9_999) = mul-le-mul same (omega arith) in
     omega (arith, lower, upper)
+
+-- a factor of 1 leaves the value as it is
+pub by_one : (p f : ℕ) → f ≡ 10_000 → p ≡ Q p f
+unfolding Q
+by_one p f e = rw e (omega arith)
