@@ -1,17 +1,17 @@
 -- What a header that passed questions 1 to 3 tells, by name. Assumes nothing.
 use mathlib.Core.Path.{◌≡◌}
 use mathlib.Core.List.{List}
-use Prim.Native.Nat.{ℕ, ◌≤◌}
+use Prim.Native.Nat.{ℕ, ◌+◌, ◌*◌, ◌≤◌}
 use native.Mathlib.Omega.{arith}
-use lib.ListN.{length}
+use lib.ListN.{length, length-take, length-drop}
 use borrow.Author.Tests.{leb-true, eqb-true}
 use Rattle.big_endian.specs.BigEndian.{byte_at, word_at}
 use Rattle.refusal.specs.Questions.{Pass}
 use Rattle.refusal.specs.declared.Refusal.TheVariants.{NoMark, WrongVersion, WrongLength}
 use Rattle.refusal.proofs.Questions.{ask-passed, then-first, then_next, both}
 use Rattle.file_layout.specs.declared.Layout.{Layout}
-use Rattle.file_layout.specs.Header.{mark, header_length, layout_of, file_length, mark_question, version_question, length_question, header_check}
-use Rattle.file_layout.specs.Inside.{Sound, LaidOut}
+use Rattle.file_layout.specs.Header.{mark, header_length, layout_of, profile_length, file_length, mark_question, version_question, length_question, header_check}
+use Rattle.file_layout.specs.Inside.{Sound, LaidOut, value_bytes}
 
 -- questions 1 to 3 passed
 pub record Headed (file : List ℕ) : Type 0 where
@@ -27,6 +27,16 @@ pub record Headed (file : List ℕ) : Type 0 where
 pub sound : (file : List ℕ) → Sound (layout_of file)
 unfolding layout_of
 sound file = record { coded = omega arith; small = omega arith }
+
+-- a profile has more bytes than the header
+pub profile_behind_header : (file : List ℕ) (at : ℕ) → at + profile_length (layout_of file) ≤ length file → header_length ≤ length file
+unfolding layout_of
+profile_behind_header file at h = omega arith
+
+-- and as many value bytes as its layout says
+pub length-value_bytes : (file : List ℕ) (at : ℕ) → at + profile_length (layout_of file) ≤ length file →
+    length (value_bytes file at) ≡ (layout_of file).entries * 2
+length-value_bytes file at h = simp (length-take, length-drop) (omega arith)
 
 -- question 1 passed
 pub record Marked (file : List ℕ) : Type 0 where

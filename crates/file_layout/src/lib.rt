@@ -1,9 +1,9 @@
 // The header of a profile file: mark, version and count, how the profiles lie, and questions 1 to 3.
 #![tactic(auto)]
 
-ghost use Rattle.std.specs.Prelude.{◌≡◌, ◌≤◌, ◌<◌, length};
+ghost use Rattle.std.specs.Prelude.{◌≡◌, ◌+◌, ◌≤◌, ◌<◌, length};
 ghost use Rattle.file_layout.specs.Header.{header_length, layout_of, profile_length, mark_question, version_question, length_question, header_check};
-ghost use Rattle.file_layout.specs.Inside.{Sound};
+ghost use Rattle.file_layout.specs.Inside.{Sound, ValueBytesOf};
 
 use refusal::Refusal;
 
@@ -105,4 +105,15 @@ pub fn header_questions(file: &[u8]) -> Result<(), Refusal>
     mark_question(file)?;
     version_question(file)?;
     length_question(layout_of(file), file)
+}
+
+// The value bytes of the profile whose code stands at `at`.
+pub fn value_bytes(file: &[u8], at: usize) -> &[u8]
+    requires { at + profile_length (layout_of file.now) ≤ length file.now }
+    ensures { ValueBytesOf file.entry at result }
+{
+    let layout = layout_of(file);
+    let start = at + layout.before;
+    let end = start + layout.entries * 2;
+    &file[start..end]
 }

@@ -1,74 +1,66 @@
 // Question 5: are all values of a profile file at most 20,000?
 #![tactic(auto)]
 
-ghost use Rattle.std.specs.Prelude.{◌≡◌, ◌+◌, ◌*◌, ◌≤◌, length};
-ghost use Rattle.file_layout.specs.Header.{profile_length};
-ghost use Rattle.file_layout.specs.Inside.{LaidOut};
-ghost use Rattle.file_values.specs.Values.{value_question, profile_values_question, values_question};
+ghost use Rattle.std.specs.Prelude.{◌≡◌, ◌+◌, ◌*◌, ◌/◌, ◌≤◌, leb, length};
+ghost use Rattle.refusal.specs.declared.Refusal.TheVariants.{BadValue};
+ghost use Rattle.refusal.specs.Questions.{ask};
+ghost use Rattle.file_layout.specs.Header.{layout_of, profile_length};
+ghost use Rattle.file_values.specs.Values.{profile_values_question, values_question};
 ghost use Rattle.file_values.specs.Inside.{UpperBytes};
 
-use file_layout::{HEADER_LENGTH, Layout};
+use file_layout::{HEADER_LENGTH, ProfileFile};
 use refusal::Refusal;
 
-// Question 5, of the value at `at`.
-fn value_question(file: &[u8], at: usize) -> Result<(), Refusal>
-    requires { at + 2 ≤ length file.now }
-    ensures { result ≡ value_question file.now at }
+// The highest value that is accepted.
+pub const HIGHEST_VALUE: u16 = 20_000;
+
+// A value with this upper byte or a lower one is accepted, whatever its lower byte: 77 × 256 + 255 is below 20,000.
+const SAFE_UPPER_BYTE: u16 = 77;
+
+// Question 5, of a value that stands at `at` in a file, or is to stand there.
+pub fn value_question(value: u16, at: usize) -> Result<(), Refusal>
+    ensures { result ≡ ask (leb value 20_000) (BadValue at) }
 {
-    if 20_000 < big_endian::word_at(file, at) {
+    if HIGHEST_VALUE < value {
         return Err(Refusal::BadValue(at));
     }
     Ok(())
 }
 
-// The upper bytes of some values, from the one at `at` on, joined bit by bit: the answer's lower byte is at least each of them.
-// Two bytes are read as one number, lower byte first, so that the compiler joins many at once.
-fn upper_bytes(file: &[u8], at: usize, values: usize) -> u16
-    requires { at + values * 2 ≤ length file.now }
-    ensures { UpperBytes file.now at values result }
+// The upper bytes of some values, joined bit by bit: the answer's lower byte is at least each of them. Two bytes are read as one
+// number, lower byte first, so that the compiler joins many at once.
+fn upper_bytes(values: &[u8]) -> u16
+    ensures { UpperBytes values.now (length values.now / 2) result }
 {
-    let mut joined: u16 = 0;
-    let mut at = at;
-    let mut left = values;
-    while 0 < left {
-        joined = joined | (file[at + 1] as u16 * 256 + file[at] as u16);
-        at += 2;
-        left -= 1;
-    }
-    joined
+    values.chunks_exact(2).fold(0, |joined, value| {
+        joined | u16::from_le_bytes([value[0], value[1]])
+    })
 }
 
 // Question 5, of the profile at `at`.
-fn profile_values_question(layout: Layout, file: &[u8], at: usize) -> Result<(), Refusal>
-    requires { at + profile_length layout ≤ length file.now }
-    ensures { result ≡ profile_values_question layout file.now at }
+fn profile_values_question(file: ProfileFile, at: usize) -> Result<(), Refusal>
+    requires { at + profile_length (layout_of file.bytes.now) ≤ length file.bytes.now }
+    ensures { result ≡ profile_values_question (layout_of file.entry.bytes.now) file.entry.bytes.now at }
 {
-    // 77 × 256 + 255 is below 20,000
-    if upper_bytes(file, at + layout.before, layout.entries) % 256 <= 77 {
+    let values = file_layout::value_bytes(file.bytes, at);
+    if upper_bytes(values) % 256 <= SAFE_UPPER_BYTE {
         return Ok(());
     }
-    let mut left = layout.entries;
-    let mut at = at + layout.before;
-    while 0 < left {
-        value_question(file, at)?;
-        at += 2;
-        left -= 1;
+    let layout = file.layout();
+    for k in 0..layout.entries {
+        let place = at + layout.before + k * 2;
+        value_question(big_endian::word_at(file.bytes, place), place)?;
     }
     Ok(())
 }
 
 // Question 5.
-pub fn values_question(layout: Layout, file: &[u8]) -> Result<(), Refusal>
-    requires { LaidOut layout file.now }
-    ensures { result ≡ values_question layout file.now }
+pub fn values_question(file: ProfileFile) -> Result<(), Refusal>
+    ensures { result ≡ values_question (layout_of file.entry.bytes.now) file.entry.bytes.now }
 {
-    let step = file_layout::profile_length(layout);
-    let mut left = layout.count;
-    let mut at = HEADER_LENGTH;
-    while 0 < left {
-        profile_values_question(layout, file, at)?;
-        at += step;
-        left -= 1;
+    let layout = file.layout();
+    for k in 0..layout.count {
+        profile_values_question(file, HEADER_LENGTH + k * layout.profile_length())?;
     }
     Ok(())
 }

@@ -167,3 +167,37 @@ number-above-0 (ShortList needed) = refl
 number-above-0 WrongReadings = refl
 number-above-0 (BadFirstDate index) = refl
 number-above-0 (ShortPage needed) = refl
+
+-- The same of a loop that counts up: k of the n questions from `at` on were asked, and passed.
+pub record Asked (question : ℕ → Verdict) (step n at k : ℕ) : Type 0 where
+  pub rest : ask_each question step (n - k) (at + k * step) ≡ ask_each question step n at
+
+pub asked_none : {question : ℕ → Verdict} {step n at : ℕ} → Asked question step n at 0
+asked_none {question} {step} {n} {at} =
+    let e : n - 0 ≡ n = omega arith in
+    let f : at + 0 * step ≡ at = omega arith in
+    record { rest = rw (e, f) }
+
+module _ {question : ℕ → Verdict} {step n at k : ℕ} (loop : Asked question step n at k) where
+  turn_at : k < n → (question (at + k * step) then ask_each question step (n - (k + 1)) (at + (k + 1) * step)) ≡ ask_each question step n at
+  unfolding ask_each
+  turn_at h =
+      let e : n - k ≡ suc (n - (k + 1)) = omega arith in
+      let f : at + k * step + step ≡ at + (k + 1) * step = omega arith in
+      rw (← f) (rw e at loop.rest)
+
+  -- the k-th question did not pass
+  pub asked-refuses : {v answer : Verdict} {r : Refusal} → k < n → v ≡ question (at + k * step) → v ≡ Err r → answer ≡ Err r →
+      answer ≡ ask_each question step n at
+  asked-refuses h e t same = same ∙ stops _ e t ∙ turn_at h
+
+  -- it passed
+  pub asked_more : {v : Verdict} → k < n → v ≡ question (at + k * step) → v ≡ Pass → Asked question step n at (k + 1)
+  asked_more h e p = record { rest = sym (then-pass _ (sym e ∙ p)) ∙ turn_at h }
+
+  -- none is left
+  pub asked_all : n ≤ k → Pass ≡ ask_each question step n at
+  unfolding ask_each
+  asked_all h =
+      let e : n - k ≡ 0 = omega arith in
+      rw e at loop.rest

@@ -1,13 +1,9 @@
--- What each turn of the loop keeps, and what falls.
-use Prim.Native.Nat.{◌+◌, ◌*◌, ◌≤◌}
-use lib.ListN.{length}
-use Rattle.refusal.specs.Questions.{ask_each}
-use Rattle.refusal.proofs.Questions.{Asking}
+-- What each turn of the loop keeps: the values that were asked passed.
+use Rattle.std.proofs.Common.{◌+◌, ◌≡◌}
+use Rattle.refusal.proofs.Questions.{Asked}
+use Rattle.file_layout.specs.Header.{layout_of}
 use Rattle.file_values.specs.Values.{value_question}
 use Rattle.file_values.proofs.profile_values_question.Given as goal
 
-abbrev pub invariant-loop-left : goal.invariant-loop-left
-invariant-loop-left l = Asking (value_question l.file) 2 l.left l.at (ask_each (value_question l.file) 2 l.initial.left l.initial.at) × (l.at + l.left * 2 ≤ length l.file)
-
-abbrev pub decreases-loop-left : goal.decreases-loop-left
-decreases-loop-left l = l.left
+abbrev pub invariant-loop-k : goal.invariant-loop-k
+invariant-loop-k l = Asked (value_question l.file.bytes.now) 2 l.layout.entries (l.at + l.layout.before) l.k × (l.layout ≡ layout_of l.file.bytes.now)

@@ -1,22 +1,17 @@
--- `file_values::values_question` meets its contract. The loop's invariant: what is left to ask is all that counts, and the profiles that
--- are left end where the file ends. The measure is how many are left.
-use native.Mathlib.Omega.{arith}
-use borrow.Author.Rules.{rules}
-use Rattle.lists.proofs.Strides.{one_less}
-use Rattle.refusal.proofs.Questions.{refused-here, passed_here, all-passed}
+-- `file_values::values_question` meets its contract: what is answered of a profile is that profile's question.
+use Rattle.std.proofs.Common.{arith, rules}
+use Rattle.refusal.proofs.Questions.{asked-refuses, asked_more, asked_all}
 use Rattle.file_values.proofs.values_question.Goals as goal
 
-pub returns-in_default : goal.returns-in_default
-returns-in_default c =
-    let l = c.loop-left in
-    refused-here l.invariant.0 (omega arith) c.profile_values_question-v.ensures (search rules)
+pub returns-in_err-profile_values_question : goal.returns-in_err-profile_values_question
+returns-in_err-profile_values_question c =
+    let asked = rw (← c.layout-layout.ensures.0, c.profile_length.ensures) at c.profile_values_question.ensures in
+    rw (← c.layout-layout.ensures.0) (asked-refuses c.loop-k.invariant (omega arith) asked c.in_err-profile_values_question.was (search rules))
 
-pub loop-left-preserved : goal.loop-left-preserved
-loop-left-preserved c =
-    let l = c.loop-left in (
-      passed_here l.invariant.0 (omega arith) c.profile_values_question-v.ensures c.in-Pass.is,
-      one_less l.invariant.1 (omega arith),
-    )
+pub loop-k-preserved : goal.loop-k-preserved
+loop-k-preserved c =
+    let asked = rw (← c.layout-layout.ensures.0, c.profile_length.ensures) at c.profile_values_question.ensures in
+    asked_more c.loop-k.invariant (omega arith) asked c.in_ok-profile_values_question.was
 
 pub returns : goal.returns
-returns c = all-passed c.loop-left.invariant.0 (omega arith)
+returns c = rw (← c.layout-layout.ensures.0) (asked_all c.loop-k.invariant (omega arith))
