@@ -6,7 +6,9 @@ use native.Mathlib.Omega.{arith}
 use native.Mathlib.Nat.{zero-add, suc-add}
 use Rattle.calendar_dates.specs.declared.Date.{Date}
 use Rattle.calendar_dates.specs.Dates.{is_date, day_number, next_day, days_later, AllDates}
+use Rattle.calendar_dates.proofs.Dates.{parts}
 use Rattle.calendar_dates.proofs.NextDay.{next-day-counts}
+use Rattle.calendar_dates.proofs.Order.{by-number, same-day}
 
 -- Days counted from a date on.
 pub all_first : (n : ℕ) (d : Date) → AllDates n d → 0 < n → is_date d ≡ true
@@ -32,3 +34,20 @@ unfolding days_later
 later-number zero d all = omega arith
 later-number (suc k) d all =
     omega (arith, later-number k (next_day d) (λ j h. all (suc j) (omega arith)), (next-day-counts d (all 0 (omega arith))).counts)
+
+-- one date more, before the others
+all_more : (n : ℕ) (d : Date) → is_date d ≡ true → AllDates n (next_day d) → AllDates (suc n) d
+unfolding days_later
+all_more n d p all zero h = p
+all_more n d p all (suc k) h = all k (omega arith)
+
+-- where the last date stands n days after the first, it is reached, over dates only
+pub reached : (n : ℕ) (first last : Date) → is_date first ≡ true → is_date last ≡ true → day_number last ≡ day_number first + n → AllDates (suc n) first × (days_later n first ≡ last)
+unfolding days_later
+reached zero first last p q h =
+    (all_more zero first p (λ k l. absurd (omega arith)), same-day first last p q (omega arith))
+reached (suc n) first last p q h =
+    let next = next-day-counts first p in
+    let before = by-number first last p q (omega arith) in
+    let rest = reached n (next_day first) last (next.is_date_too (omega (arith, parts last q))) q (omega arith) in
+    (all_more (suc n) first p rest.0, rest.1)

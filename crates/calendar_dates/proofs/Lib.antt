@@ -1,3 +1,4 @@
 pub mod Dates
 pub mod NextDay
+pub mod Order
 pub mod Later

@@ -94,7 +94,8 @@ impl CalendarDay {
 
     // Days since 1 January 1996.
     pub fn day_number(self) -> u32
-        ensures { result ≡ day_number self }
+        ensures same { result ≡ day_number self }
+        ensures real { is_date self ≡ true }
     {
         days_since_1996(self.date.year, self.t)
     }

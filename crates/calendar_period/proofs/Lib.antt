@@ -1,1 +1,1 @@
-pub mod Period
+pub mod Periods

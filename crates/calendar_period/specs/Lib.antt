@@ -1,2 +1,1 @@
 pub mod Period
-pub mod Inside

@@ -1,35 +1,23 @@
--- What a day knows of itself, the values of a period's days, and what questions 7 and 8 say of a period. Assumes nothing.
-use Rattle.refusal.specs.Questions.{answered}
-use Rattle.std.specs.Prelude.{Ok, Err}
+-- The values of a period's days, and what questions 7 and 8 say of a period. Assumes nothing.
 use mathlib.Core.Path.{◌≡◌, refl, ◌∙◌, ap}
 use mathlib.Core.Bool.{true}
 use Prim.Native.Nat.{ℕ, zero, suc, ◌+◌, ◌-◌, ◌*◌, ◌≤◌, ◌<◌}
 use native.Mathlib.Omega.{arith}
 use lib.Dec.{leb}
 use borrow.Author.Tests.{le-leb, leb-true}
-use Rattle.refusal.specs.declared.Refusal.{Refusal}
 use Rattle.refusal.specs.declared.Refusal.TheVariants.{BadDate, BadPeriod}
-use Rattle.refusal.specs.Questions.{Verdict}
 use Rattle.refusal.specs.Questions.{Pass}
 use Rattle.refusal.specs.Questions.{◌then◌}
 use Rattle.refusal.proofs.Questions.{ask-yes, then-pass, ask-passed, then-first, then_next, both}
 use Rattle.calendar_dates.specs.declared.Date.{Date}
-use Rattle.calendar_dates.specs.Dates.{date_of, is_date, day_of_year, day_number, weekday_of, next_day}
+use Rattle.calendar_dates.specs.Dates.{date_of, is_date, day_number, next_day, AllDates}
+use Rattle.calendar_dates.proofs.Later.{reached}
 use Rattle.calendar_days.specs.declared.Clock.{Clock}
 use Rattle.calendar_days.specs.declared.Clock.TheVariants.{Unchanged, Forward, Back}
 use Rattle.calendar_days.specs.Days.{clock, value_count_under, value_count}
-use Rattle.calendar_period.specs.declared.CalendarDay.{CalendarDay}
-use Rattle.calendar_period.specs.declared.PeriodDays.{PeriodDays}
-use Rattle.calendar_period.specs.Period.{date_question, days_of, period_question, period_check, value_count_of_days}
-use Rattle.calendar_period.specs.Inside.{RealDay}
-
--- what a day knows of itself
-module _ {day : CalendarDay} (real : RealDay day) where
-  pub own-weekday : day.weekday ≡ weekday_of day.date
-  own-weekday = ap (λ (x : CalendarDay). x.weekday) real.known
-
-  pub own-t : day.t ≡ day_of_year day.date
-  own-t = ap (λ (x : CalendarDay). x.t) real.known
+use Rattle.std.specs.List.{sum_by}
+use Rattle.std.proofs.lemmas.List.Sums.{sum_by-cons}
+use Rattle.calendar_period.specs.Period.{dates_from, date_question, days_of, period_question, period_check, value_count_of_days}
 
 -- The values of a period's days: at most 100 a day.
 pub clock-small : (c : Clock) → value_count_under c ≤ 100
@@ -78,36 +66,21 @@ module _ (first last : ℕ) where
       then-pass _ (ask-yes (BadDate 0) p.dates-first) ∙ then-pass _ (ask-yes (BadDate 1) p.dates-last)
       ∙ ask-yes BadPeriod (rw (le-leb _ _ p.ordered, le-leb _ _ p.short))
 
--- What the answers of the two checks tell of the questions asked, and the other way round.
-pub dated-real : (v : Verdict) {d given : Date} → Ok d ≡ answered v given → (v ≡ Pass) × (d ≡ given)
-dated-real (Ok _) h = (refl, cc)
-dated-real (Err r) h = let z : ◌≡◌ {A = ℕ} 0 1 = cc in absurd (omega arith)
-
-pub dated-refused : (v : Verdict) (given : Date) {r : Refusal} → Err r ≡ answered v given → v ≡ Err r
-dated-refused (Ok _) given h = let z : ◌≡◌ {A = ℕ} 0 1 = cc in absurd (omega arith)
-dated-refused (Err r) given h = cc
-
-pub answers-real : {v : Verdict} {d given : Date} → v ≡ Pass → d ≡ given → Ok d ≡ answered v given
-answers-real p e = rw (p, e)
-
-pub answers-bad : {v : Verdict} {r : Refusal} (given : Date) → v ≡ Err r → Err r ≡ answered v given
-answers-bad given h = rw h
-
 -- a date whose question passed
 pub real-date : (number place : ℕ) → date_question number place ≡ Pass → is_date (date_of number) ≡ true
 unfolding date_question
 real-date number place h = ask-passed _ (BadDate place) h
 
-pub counted-days : (v : Verdict) {days given : PeriodDays} → Ok days ≡ answered v given → (v ≡ Pass) × (days ≡ given)
-counted-days (Ok _) h = (refl, cc)
-counted-days (Err r) h = let z : ◌≡◌ {A = ℕ} 0 1 = cc in absurd (omega arith)
+-- the days from one date to another are dates
+pub all-between : (first last : Date) → is_date first ≡ true → is_date last ≡ true → day_number first ≤ day_number last → AllDates (days_of first last) first
+unfolding days_of
+all-between first last p q h =
+    let n = day_number last - day_number first in
+    let all : suc n ≡ day_number last + 1 - day_number first = omega arith in
+    rw (← all) (reached n first last p q (omega arith)).0
 
-pub counted-refused : (v : Verdict) (given : PeriodDays) {r : Refusal} → Err r ≡ answered v given → v ≡ Err r
-counted-refused (Ok _) given h = let z : ◌≡◌ {A = ℕ} 0 1 = cc in absurd (omega arith)
-counted-refused (Err r) given h = cc
-
-pub answers-days : {v : Verdict} {days given : PeriodDays} → v ≡ Pass → days ≡ given → Ok days ≡ answered v given
-answers-days p e = rw (p, e)
-
-pub answers-refused : {v : Verdict} {r : Refusal} (given : PeriodDays) → v ≡ Err r → Err r ≡ answered v given
-answers-refused given h = rw h
+-- the values of the days one after the other
+pub values-from : (n : ℕ) (d : Date) → sum_by value_count (dates_from n d) ≡ value_count_of_days n d
+unfolding value_count_of_days
+values-from zero d = refl
+values-from (suc n) d = rw sum_by-cons (ap (λ (rest : ℕ). value_count d + rest) (values-from n (next_day d)))
