@@ -1,112 +1,92 @@
 -- Two ranges, one after the other, are the day after the clock change. Assumes nothing.
-use mathlib.Core.Path.{◌≡◌, refl, sym, ◌∙◌, ap}
-use mathlib.Core.List.{List, ◌++◌, append-nil}
-use Prim.Native.Nat.{ℕ, ◌+◌, ◌-◌, ◌≤◌}
-use native.Mathlib.Omega.{arith}
-use lib.ListN.{length, take, drop, length-append}
-use lib.Seq.{sets, slice, length-sets, length-take-le, take_all, slice_empty, length-slice}
-use Rattle.lists.specs.Lists.{sum}
-use Rattle.lists.proofs.Stores.{sets-append, stored}
+use Rattle.std.proofs.Common.{◌≡◌, sym, ◌∙◌, List, [], ◌∷◌, ◌++◌, ℕ, zero, suc, ◌+◌, ◌-◌, ◌≤◌, length, get_or, take, drop, arith, append_assoc, length-append, length-drop}
+use Rattle.std.proofs.Math.Seq.{get_or-drop}
+use Rattle.std.proofs.lemmas.List.{take_at, drop_at, drop-drop, take_all, drop_all, append-nil}
+use borrow.Rule.Slice.PartMut.{put_mid}
+use Rattle.lists.proofs.Parts.{take-small}
 use Rattle.calendar_days.specs.declared.Clock.{Clock}
 use Rattle.calendar_days.specs.declared.Clock.TheVariants.{Unchanged, Forward, Back}
 use Rattle.calendar_days.specs.Days.{positions, value_count_under}
-use Rattle.carry.specs.Carry.{figures, last_carry, RunsJoin}
+use Rattle.carry.specs.Carry.{figures, RunsJoin}
 use Rattle.carry.proofs.Carry.{figures-append, carry-append, length-figures, carry-small, runs-join}
 use Rattle.carry_quotients.specs.declared.Carried.{Carried}
-use Rattle.carry_quotients.specs.Inside.{SmallPowers, InDay, RangeCarried}
-use Rattle.carry_day.specs.Inside.{DayCarried, first_end, second_start}
+use Rattle.carry_quotients.specs.Inside.{SmallPowers, RangeCarried}
+use Rattle.carry_day.specs.Inside.{DayCarried}
 
--- the two ranges of a clock lie in the day, and have its values together
-pub record Cut (clock : Clock) : Type 0 where
-  pub first : first_end clock ≤ 96
-  pub second : second_start clock ≤ 96
-  pub together : first_end clock + (96 - second_start clock) ≡ value_count_under clock
+-- no power of a range is above 40,000 where none of the day's is
+drop-small : (n limit : ℕ) (xs : List ℕ) → ((i : ℕ) → get_or xs i 0 ≤ limit) → (i : ℕ) → get_or (drop n xs) i 0 ≤ limit
+drop-small n limit xs h i = rw get_or-drop (h _)
 
-pub cut : (clock : Clock) → Cut clock
-cut Unchanged = record { first = omega arith; second = omega arith; together = refl }
-cut Forward = record { first = omega arith; second = omega arith; together = refl }
-cut Back = record { first = omega arith; second = omega arith; together = refl }
+append-small : (limit : ℕ) (xs ys : List ℕ) → ((i : ℕ) → get_or xs i 0 ≤ limit) → ((i : ℕ) → get_or ys i 0 ≤ limit) → (i : ℕ) → get_or (xs ++ ys) i 0 ≤ limit
+append-small limit [] ys h k i = k i
+append-small limit (x ∷ xs) ys h k zero = h 0
+append-small limit (x ∷ xs) ys h k (suc i) = append-small limit xs ys (λ j. h (suc j)) k i
 
--- the two ranges of a day of n positions: all, or a part of the front and a part of the back
-whole : (n : ℕ) (day : List ℕ) → length day ≡ n → day ≡ slice 0 n day ++ slice n n day
-whole n day h = let all : length day ≤ n = omega arith in rw (slice_empty n day, append-nil (take n day), take_all n day)
-
-parts : (a b n : ℕ) (day : List ℕ) → length day ≡ n → take a day ++ drop b day ≡ slice 0 a day ++ slice b n day
-parts a b n day h = let all : length day ≤ n = omega arith in rw (take_all n day)
-
-pub ranges : (clock : Clock) (day : List ℕ) → length day ≡ 96 → positions clock day ≡ slice 0 (first_end clock) day ++ slice (second_start clock) 96 day
+positions-small : (clock : Clock) (powers : List ℕ) → ((i : ℕ) → get_or powers i 0 ≤ 40_000) → (i : ℕ) → get_or (positions clock powers) i 0 ≤ 40_000
 unfolding positions
-ranges Unchanged day h = whole 96 day h
-ranges Forward day h = parts 8 12 96 day h
-ranges Back day h = parts 12 8 96 day h
+positions-small Unchanged powers h = h
+positions-small Forward powers h = append-small 40_000 (take 8 powers) (drop 12 powers) (take-small 8 40_000 powers h) (drop-small 12 40_000 powers h)
+positions-small Back powers h = append-small 40_000 (take 12 powers) (drop 8 powers) (take-small 12 40_000 powers h) (drop-small 8 40_000 powers h)
 
--- two runs, the second with the carry handed on and behind the first's figures, are the run of both
-module _ (one two : List ℕ) {yearly carry : ℕ} {before middle after : List ℕ} {at n : ℕ} {first second : Carried} (full : length one ≡ n)
-    (f : RangeCarried one yearly carry before at first middle) (g : RangeCarried two yearly first.carry middle (at + n) second after) where
-  joined-figures : after ≡ sets before at (figures yearly (one ++ two) carry)
-  joined-figures =
-      g.figures_stored
-      ∙ rw (f.carry_is, f.figures_stored, figures-append yearly one two, sets-append before (figures yearly one carry), length-figures yearly one, full)
+first-small : (limit : ℕ) (xs ys : List ℕ) → ((i : ℕ) → get_or (xs ++ ys) i 0 ≤ limit) → (i : ℕ) → get_or xs i 0 ≤ limit
+first-small limit [] ys h i = omega arith
+first-small limit (x ∷ xs) ys h zero = h 0
+first-small limit (x ∷ xs) ys h (suc i) = first-small limit xs ys (λ j. h (suc j)) i
 
-  joined-total : first.total + second.total ≡ sum (figures yearly (one ++ two) carry)
-  unfolding RunsJoin
-  joined-total = omega (arith, (runs-join.0 yearly carry one two).totals_add, f.total_is, rw f.carry_is at g.total_is)
+second-small : (limit : ℕ) (xs ys : List ℕ) → ((i : ℕ) → get_or (xs ++ ys) i 0 ≤ limit) → (i : ℕ) → get_or ys i 0 ≤ limit
+second-small limit [] ys h i = h i
+second-small limit (x ∷ xs) ys h i = second-small limit xs ys (λ j. h (suc j)) i
 
-  joined-carry : second.carry ≡ last_carry yearly (one ++ two) carry
-  joined-carry = (rw f.carry_is at g.carry_is) ∙ sym (carry-append yearly one two carry)
-
--- stores of n figures as a contract says them
-pub stored-figures : (figs before : List ℕ) (at n : ℕ) → length figs ≡ n → at + n ≤ length before →
-    sets before at figs ≡ take at before ++ (figs ++ drop (at + n) before)
-stored-figures figs before at n e h = stored figs before at e h
+-- a list stored behind another, in the part of memory behind it
+behind : (first second before : List ℕ) (n m : ℕ) {middle part : List ℕ} → length first ≡ n → length second ≡ m → n + m ≤ length before →
+    middle ≡ first ++ drop n before → part ≡ second ++ drop m (take (length middle - n) (drop n middle)) →
+    put_mid n (length middle - n) middle part ≡ (first ++ second) ++ drop (n + m) before
+behind first second before n m {middle} {part} e f room s p =
+    let front : take n middle ≡ first = rw s (take_at first (drop n before) n e) in
+    let rest : drop n middle ≡ drop n before = rw s (drop_at first (drop n before) n e) in
+    let kept : length middle ≡ length before = rw s (omega (arith, length-append first (drop n before), length-drop n before)) in
+    let all : take (length middle - n) (drop n middle) ≡ drop n before =
+    rw rest (take_all (length middle - n) (drop n before) (omega (arith, length-drop n before))) in
+    let none : drop (length middle - n) (drop n middle) ≡ [] =
+    rw rest (drop_all (length middle - n) (drop n before) (omega (arith, length-drop n before))) in
+    rw (p, front, all, none, drop-drop m n before, append-nil (second ++ drop (n + m) before), append_assoc first second (drop (n + m) before))
 
 -- the day's two ranges
-module _ (powers : List ℕ) (clock : Clock) {yearly carry end begin : ℕ} {before middle : List ℕ} {at : ℕ} {first : Carried}
-    (all : length powers ≡ 96) (he : end ≡ first_end clock) (hb : begin ≡ second_start clock) (room : at + value_count_under clock ≤ length before)
-    (f : RangeCarried (slice 0 end powers) yearly carry before at first middle) where
-  pub second-in-day : InDay begin 96 powers middle (at + end)
-  second-in-day =
-      let s = cut clock in
-      let kept = ap length f.figures_stored ∙ length-sets before at (figures yearly (slice 0 end powers) carry) in
-      record { ordered = omega arith; within = omega arith; whole = all; room = omega arith }
-
-  pub day : {after : List ℕ} {second : Carried} → RangeCarried (slice begin 96 powers) yearly first.carry middle (at + end) second after →
-      DayCarried powers clock yearly carry before at (record { total = first.total + second.total; carry = second.carry }) after
-  day g =
-      let s = cut clock in
-      let one = slice 0 end powers in
-      let two = slice begin 96 powers in
-      let e : positions clock powers ≡ one ++ two = rw (he, hb) (ranges clock powers all) in
-      let full : length one ≡ end = length-take-le end powers (omega arith) in
-      let both : length (figures yearly (one ++ two) carry) ≡ value_count_under clock =
-      omega (arith, length-figures yearly (one ++ two) carry, length-append one two, length-slice begin 96 powers (omega arith)) in
+module _ (powers one two : List ℕ) (clock : Clock) {yearly carry : ℕ} (joined : one ++ two ≡ positions clock powers) (small : SmallPowers powers yearly carry) where
+  pub first-range : SmallPowers one yearly carry
+  first-range =
       record {
-        figures_stored = rw e (joined-figures one two full f g ∙ stored-figures (figures yearly (one ++ two) carry) before at (value_count_under clock) both room);
-        total_is = rw e (joined-total one two full f g);
-        carry_is = rw e (joined-carry one two full f g);
+        small = first-small 40_000 one two (rw joined (positions-small clock powers small.small));
+        yearly_small = small.yearly_small;
+        in_range = small.in_range;
+      }
+
+  -- the second begins with the carry that the first leaves
+  pub second-range : {before middle : List ℕ} {first : Carried} → RangeCarried one yearly carry before first middle → SmallPowers two yearly first.carry
+  second-range f =
+      record {
+        small = second-small 40_000 one two (rw joined (positions-small clock powers small.small));
+        yearly_small = small.yearly_small;
+        in_range = omega (arith, f.carry_is, carry-small yearly carry one small.in_range);
+      }
+
+  pub day : {before middle part : List ℕ} {first second : Carried} → length one + length two ≡ value_count_under clock → value_count_under clock ≤ length before →
+      RangeCarried one yearly carry before first middle →
+      RangeCarried two yearly first.carry (take (length middle - length one) (drop (length one) middle)) second part →
+      DayCarried powers clock yearly carry before (record { total = first.total + second.total; carry = second.carry })
+      (put_mid (length one) (length middle - length one) middle part)
+  unfolding RunsJoin
+  day {before} {middle} {first = first} {second} count room f g =
+      let stored = behind (figures yearly one carry) (figures yearly two first.carry) before (length one) (length two)
+      (length-figures yearly one carry) (length-figures yearly two first.carry) (omega arith) f.figures_stored g.figures_stored in
+      record {
+        figures_stored = rw (← joined, ← count, figures-append yearly one two carry, ← f.carry_is) stored;
+        total_is = rw (← joined) (omega (arith, (runs-join.0 yearly carry one two).totals_add, f.total_is, rw f.carry_is at g.total_is));
+        carry_is = rw (← joined) (rw f.carry_is at g.carry_is ∙ sym (carry-append yearly one two carry));
       }
 
 -- a day without a clock change is one range
-pub unchanged : (powers : List ℕ) {clock : Clock} {yearly carry : ℕ} {before after : List ℕ} {at : ℕ} {r : Carried} → length powers ≡ 96 → clock ≡ Unchanged →
-    at + value_count_under clock ≤ length before → RangeCarried (slice 0 96 powers) yearly carry before at r after → DayCarried powers clock yearly carry before at r after
+pub unchanged : {powers : List ℕ} {yearly carry : ℕ} {before after : List ℕ} {r : Carried} → length powers ≡ 96 →
+    RangeCarried powers yearly carry before r after → DayCarried powers Unchanged yearly carry before r after
 unfolding positions
-unchanged powers {yearly = yearly} {carry} {before} {at = at} all e room f =
-    let same : slice 0 96 powers ≡ powers = take_all 96 powers (omega arith) in
-    let g = rw same at f in
-    let count : length (figures yearly powers carry) ≡ 96 = length-figures yearly powers carry ∙ all in
-    rw e
-    (record {
-      figures_stored = g.figures_stored ∙ stored-figures (figures yearly powers carry) before at 96 count (rw e at room);
-      total_is = g.total_is;
-      carry_is = g.carry_is;
-    })
-
--- the second range begins with a carry in its range too
-pub handed-on : {powers run : List ℕ} {yearly carry : ℕ} {before after : List ℕ} {at : ℕ} {r : Carried} →
-    SmallPowers powers yearly carry → RangeCarried run yearly carry before at r after → SmallPowers powers yearly r.carry
-handed-on {run = run} {yearly} {carry} h f =
-    record {
-      small = h.small;
-      yearly_small = h.yearly_small;
-      in_range = omega (arith, f.carry_is, carry-small yearly carry run h.in_range);
-    }
+unchanged all f = record { figures_stored = rw all at f.figures_stored; total_is = f.total_is; carry_is = f.carry_is }
