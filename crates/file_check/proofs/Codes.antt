@@ -1,18 +1,17 @@
 -- Question 4 of one code, as facts: the code at `at` is at most 10, and above the code before it unless it is the first one.
 -- Assumes nothing.
-use Rattle.std.specs.Prelude.{Err}
-use mathlib.Core.Path.{◌≡◌, refl, sym}
-use mathlib.Core.Bool.{Bool, true, false, ◌&&◌, ◌||◌}
+use mathlib.Core.Path.{◌≡◌}
+use mathlib.Core.Bool.{◌&&◌, ◌||◌}
 use mathlib.Core.List.{List}
 use Prim.Native.Nat.{ℕ, ◌-◌, ◌≤◌, ◌<◌}
 use lib.Dec.{leb, ltb, eqb}
-use borrow.Author.Tests.{leb-true, ltb-true, eqb-false, le-leb, lt-ltb, ne_eqb}
+use borrow.Author.Tests.{leb-true, ltb-true, ne_eqb}
 use Rattle.big_endian.specs.BigEndian.{byte_at}
 use Rattle.refusal.specs.declared.Refusal.TheVariants.{BadCode}
 use Rattle.refusal.specs.Questions.{Verdict}
 use Rattle.refusal.specs.Questions.{Pass}
 use Rattle.refusal.specs.Questions.{ask}
-use Rattle.refusal.proofs.Questions.{ask-yes, refuses, ask-passed, both}
+use Rattle.refusal.proofs.Questions.{ask-passed, both}
 use Rattle.file_layout.specs.declared.Layout.{Layout}
 use Rattle.file_layout.specs.Header.{header_length, profile_length}
 use Rattle.file_check.specs.Check.{code_question}
@@ -30,16 +29,6 @@ module _ (before code at : ℕ) where
       let tests = both (leb code 10) _ (ask-passed _ (BadCode at) h) in
       record { bound = leb-true _ _ tests.0; rises = λ later. ltb-true _ _ (rw (ne_eqb at header_length later) at tests.1) }
 
-  pub code-refused : (Rising before code at → ⊥) → Err (BadCode at) ≡ question
-  code-refused never = refuses _ (BadCode at) (λ h. never (rising h))
-
-  pub code-passes : Rising before code at → Pass ≡ question
-  code-passes r = sym (ask-yes (BadCode at) (rw (le-leb code 10 r.bound) (go (eqb at header_length) refl)))
-    where
-      go : (first : Bool) → eqb at header_length ≡ first → (first || ltb before code) ≡ true
-      go true e = refl
-      go false e = lt-ltb before code (r.rises (eqb-false at header_length e))
-
 -- the same of the code at `at` in a file
 abbrev pub RisingAt : Layout → List ℕ → ℕ → Type 0
 RisingAt layout file at = Rising (byte_at file (at - profile_length layout)) (byte_at file at) at
@@ -48,11 +37,3 @@ module _ (layout : Layout) (file : List ℕ) (at : ℕ) where
   pub rising-at : code_question layout file at ≡ Pass → RisingAt layout file at
   unfolding code_question
   rising-at h = rising _ _ at h
-
-  pub refused-at : (RisingAt layout file at → ⊥) → Err (BadCode at) ≡ code_question layout file at
-  unfolding code_question
-  refused-at never = code-refused _ _ at never
-
-  pub passes_at : RisingAt layout file at → Pass ≡ code_question layout file at
-  unfolding code_question
-  passes_at r = code-passes _ _ at r

@@ -1,54 +1,53 @@
 // Questions 1 to 5: is this a profile file? Question 4 is here; everything is asked in the order of document 01.
 #![tactic(auto)]
 
-ghost use Rattle.std.specs.Prelude.{◌≡◌};
-ghost use Rattle.refusal.specs.Questions.{reported};
-ghost use Rattle.file_layout.specs.Inside.{LaidOut};
-ghost use Rattle.file_check.specs.Inside.{CodeAt};
-ghost use Rattle.file_check.specs.Check.{code_question, codes_question, file_check};
+ghost use Rattle.std.specs.Prelude.{◌≡◌, ◌&&◌, leb, Err, MatchResult};
+ghost use Rattle.refusal.specs.declared.Refusal.TheVariants.{BadCode};
+ghost use Rattle.refusal.specs.Questions.{ask, Pass};
+ghost use Rattle.file_layout.specs.Header.{layout_of};
+ghost use Rattle.file_check.specs.Inside.{is_above};
+ghost use Rattle.file_check.specs.Check.{codes_question, file_check};
 
-use file_layout::{HEADER_LENGTH, Layout};
+use file_layout::{HEADER_LENGTH, ProfileFile};
 use refusal::Refusal;
 
-// Question 4, of the code at `at`.
-fn code_question(layout: Layout, file: &[u8], at: usize) -> Result<(), Refusal>
-    requires { CodeAt layout file.now at }
-    ensures { result ≡ code_question layout file.now at }
+// The highest group code.
+const HIGHEST_CODE: u8 = 10;
+
+// Question 4, of a code that stands at `at` in a file, or is to stand there, with the code before it where there is one.
+pub fn code_question(before: Option<u8>, code: u8, at: usize) -> Result<(), Refusal>
+    ensures { result ≡ ask (leb code 10 && is_above before code) (BadCode at) }
 {
-    if 10 < file[at] {
+    if HIGHEST_CODE < code || before.is_some_and(|before| code <= before) {
         return Err(Refusal::BadCode(at));
-    }
-    if at != HEADER_LENGTH {
-        if file[at] <= file[at - file_layout::profile_length(layout)] {
-            return Err(Refusal::BadCode(at));
-        }
     }
     Ok(())
 }
 
 // Question 4.
-fn codes_question(layout: Layout, file: &[u8]) -> Result<(), Refusal>
-    requires { LaidOut layout file.now }
-    ensures { result ≡ codes_question layout file.now }
+fn codes_question(file: ProfileFile) -> Result<(), Refusal>
+    ensures { result ≡ codes_question (layout_of file.entry.bytes.now) file.entry.bytes.now }
 {
-    let step = file_layout::profile_length(layout);
-    let mut left = layout.count;
-    let mut at = HEADER_LENGTH;
-    while 0 < left {
-        code_question(layout, file, at)?;
-        at += step;
-        left -= 1;
+    let layout = file.layout();
+    let mut before = None;
+    for k in 0..layout.count {
+        let at = HEADER_LENGTH + k * layout.profile_length();
+        let code = file.bytes[at];
+        code_question(before, code, at)?;
+        before = Some(code);
     }
     Ok(())
 }
 
 // Questions 1 to 5.
-pub fn check_file(file: &[u8]) -> Result<(), Refusal>
-    ensures value { result ≡ file_check file.now }
-    ensures result_value { reported result ≡ reported (file_check file.now) }
+#[tactic(auto, unfolding(crate::specs::Check::file_check))]
+pub fn check_file(bytes: &[u8]) -> Result<ProfileFile<'_>, Refusal>
+    ensures { MatchResult result
+        (λ file. (file_check bytes.now ≡ Pass) × (file.bytes ≡ bytes.entry))
+        (λ refusal. file_check bytes.now ≡ Err refusal) }
 {
-    file_layout::header_questions(file)?;
-    let layout = file_layout::layout_of(file);
-    codes_question(layout, file)?;
-    file_values::values_question(layout, file)
+    let file = ProfileFile::new(bytes)?;
+    codes_question(file)?;
+    file_values::values_question(file)?;
+    Ok(file)
 }

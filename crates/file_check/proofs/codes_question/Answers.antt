@@ -1,23 +1,27 @@
--- `file_check::codes_question` meets its contract. The loop's invariant: what is left to ask is all that counts, the profiles that are
--- left end where the file ends, and before each code but the first one there is a profile. The measure is how many are left.
-use native.Mathlib.Omega.{arith}
-use borrow.Author.Rules.{rules}
-use Rattle.lists.proofs.Strides.{one_less}
-use Rattle.refusal.proofs.Questions.{refused-here, passed_here, all-passed}
+-- `file_check::codes_question` meets its contract: what is asked of a code with the one before it is that code's question.
+use Rattle.std.proofs.Common.{arith, rules, sym, ◌∙◌}
+use Rattle.refusal.proofs.Questions.{asked-refuses, asked_more, asked_all}
+use Rattle.file_check.proofs.Asked.{one-before, code-asked}
 use Rattle.file_check.proofs.codes_question.Goals as goal
 
-pub returns-in_default : goal.returns-in_default
-returns-in_default c =
-    let l = c.loop-left in
-    refused-here l.invariant.0 (omega arith) c.code_question-v.ensures (search rules)
+pub returns-in_err-code_question : goal.returns-in_err-code_question
+returns-in_err-code_question c =
+    let l = c.loop-k in
+    let file = c.args.file.bytes.now in
+    let sound = rw (← c.layout-layout.ensures.0) at c.args.file.laid.sound in
+    let asked = rw (c.profile_length.ensures, l.invariant.1) at c.code_question.ensures in
+    rw (← c.layout-layout.ensures.0)
+    (asked-refuses l.invariant.0 (omega arith) (asked ∙ code-asked c.layout-layout.result file l.k sound) c.in_err-code_question.was (search rules))
 
-pub loop-left-preserved : goal.loop-left-preserved
-loop-left-preserved c =
-    let l = c.loop-left in (
-      passed_here l.invariant.0 (omega arith) c.code_question-v.ensures c.in-Pass.is,
-      one_less l.invariant.1 (omega arith),
-      λ n. omega arith,
+pub loop-k-preserved : goal.loop-k-preserved
+loop-k-preserved c =
+    let l = c.loop-k in
+    let file = c.args.file.bytes.now in
+    let sound = rw (← c.layout-layout.ensures.0) at c.args.file.laid.sound in
+    let asked = rw (c.profile_length.ensures, l.invariant.1) at c.code_question.ensures in (
+      asked_more l.invariant.0 (omega arith) (asked ∙ code-asked c.layout-layout.result file l.k sound) c.in_ok-code_question.was,
+      rw (c.profile_length.ensures) (sym (one-before c.layout-layout.result file l.k)),
     )
 
 pub returns : goal.returns
-returns c = all-passed c.loop-left.invariant.0 (omega arith)
+returns c = rw (← c.layout-layout.ensures.0) (asked_all c.loop-k.invariant.0 (omega arith))

@@ -1,17 +1,11 @@
--- What each turn of the loop keeps, and what falls.
-use mathlib.Core.Path.{◌≡◌}
-use Prim.Native.Nat.{◌≤◌}
-use lib.ListN.{length}
-use Rattle.lists.proofs.Strides.{Ahead}
-use Rattle.refusal.proofs.Questions.{Asking}
-use Rattle.file_layout.specs.Header.{header_length}
-use Rattle.file_check.specs.Check.{code_question, codes_question}
+-- What each turn of the loop keeps: the codes that were asked passed, and the last of them is at hand.
+use Rattle.std.proofs.Common.{◌≡◌}
+use Rattle.refusal.proofs.Questions.{Asked}
+use Rattle.file_layout.specs.Header.{header_length, profile_length}
+use Rattle.file_check.specs.Check.{code_question}
+use Rattle.file_check.proofs.Asked.{code_before}
 use Rattle.file_check.proofs.codes_question.Given as goal
 
-abbrev pub invariant-loop-left : goal.invariant-loop-left
-invariant-loop-left l = Asking (code_question l.layout l.file) l.step l.left l.at (codes_question l.layout l.file)
-    × Ahead l.step l.left l.at (length l.file)
-    × ((l.at ≡ header_length → ⊥) → l.step ≤ l.at)
-
-abbrev pub decreases-loop-left : goal.decreases-loop-left
-decreases-loop-left l = l.left
+abbrev pub invariant-loop-k : goal.invariant-loop-k
+invariant-loop-k l = Asked (code_question l.layout l.file.bytes.now) (profile_length l.layout) l.layout.count header_length l.k
+    × (l.before ≡ code_before l.layout l.file.bytes.now l.k)
