@@ -57,6 +57,17 @@ impl Period {
         Period::between(from, to)
     }
 
+    // The period of some days from a day on.
+    pub fn of_days(first: CalendarDay, days: u32) -> Period
+        requires some { 1 ≤ days }
+        requires few { days ≤ 1_461 }
+        requires real { AllDates days first }
+        ensures first { result.first ≡ first }
+        ensures days { result.days ≡ days }
+    {
+        Period { first, days }
+    }
+
     pub fn first(self) -> CalendarDay
         ensures { result ≡ self.first }
     {

@@ -14,18 +14,16 @@ use Rattle.refusal.specs.declared.Refusal.TheVariants.{WrongReadings, BadFirstDa
 use Rattle.refusal.specs.Questions.{Pass}
 use Rattle.refusal.proofs.Questions.{ask-passed, each-passed, both}
 use Rattle.calendar_dates.specs.declared.Date.{Date}
-use Rattle.calendar_dates.specs.Dates.{date_of, number_of, is_date, day_number, next_day, days_later}
-use Rattle.calendar_dates.proofs.Dates.{number_small}
+use Rattle.calendar_dates.specs.Dates.{date_of, number_of, is_date, day_number, next_day, days_later, AllDates}
 use Rattle.calendar_dates.proofs.Later.{later-number, later-next}
-use Rattle.calendar_period.specs.declared.PeriodDays.{PeriodDays}
-use Rattle.calendar_period.specs.Period.{days_of}
-use Rattle.calendar_period.specs.Inside.{calendar_day, period_days, RealDays}
+use Rattle.calendar_period.specs.Period.{PeriodDays, days_of, period_days, period_check}
+use Rattle.calendar_period.proofs.Periods.{Period, period-passed}
 use Rattle.calendar_laws.specs.Dates.{DatesCounted}
 use Rattle.calendar_laws.proofs.Dates.{dates-counted}
 use Rattle.calendar_laws.proofs.Order.{same-order}
 use Rattle.calendar_laws.proofs.Periods.{period-days}
 use Rattle.calendar_reading_periods.specs.ReadingPeriods.{readings_question, first_date_question, first_dates_question, end_of}
-use Rattle.calendar_reading_periods.specs.Inside.{FirstDates, number_after, PeriodsFrom}
+use Rattle.calendar_reading_periods.specs.Inside.{FirstDates, FewDays, PeriodsLeft, number_after}
 
 -- Question 17.
 pub record Counted (dates values : ℕ) : Type 0 where
@@ -161,59 +159,53 @@ pub next-begins : (last start next : ℕ) (rest : List ℕ) → FirstDates last 
 unfolding end_of
 next-begins last start next rest f = day-after start next f.0 f.3.0 (day-before start next f.0 f.3.0 f.2)
 
--- The period at an index.
-module _ {last : ℕ} {starts : List ℕ} {index : ℕ} (f : PeriodsFrom last starts index) where
-  abbrev rest : List ℕ
-  rest = drop (index + 1) starts
+-- the first dates of a span whose questions passed
+pub all-left : (first last : ℕ) (starts : List ℕ) → period_check first last ≡ Pass → first_dates_question first last starts ≡ Pass → PeriodsLeft last starts
+all-left first last starts span passed =
+    record { real = period.dates-last; dates = all-dates first last starts passed; few = few starts (begins first last starts passed) }
+  where
+    period : Period first last
+    period = period-passed first last span
 
-  this-and-rest : FirstDates last (get_or starts index 0 ∷ rest)
-  this-and-rest = rw (drop-next starts index f.inside) at f.dates
+    few : (starts : List ℕ) → (0 < length starts → get_or starts 0 0 ≡ first) → FewDays last starts
+    few [] h = tt
+    few (start ∷ later) h = let e : start ≡ first = h (omega arith) in rw e period.short
 
-  pub start-real : is_date (date_of (get_or starts index 0)) ≡ true
-  start-real = this-and-rest.0
+-- What is left of periods.
+module _ {last start : ℕ} {later : List ℕ} (left : PeriodsLeft last (start ∷ later)) where
+  period-ends : Ends last start later
+  period-ends = ends last start later left.real left.dates
 
-  pub period-ends : Ends last (get_or starts index 0) rest
-  period-ends = ends last (get_or starts index 0) rest f.real this-and-rest
-
-  pub next-from : index + 1 < length starts → PeriodsFrom last starts (index + 1)
+  -- the next period has fewer days to the span's end
+  pub left-next : PeriodsLeft last later
   unfolding days_of
-  next-from h =
-      let few = f.few in
-      let more = rw (drop-next starts (index + 1) h) at this-and-rest in
-      let later = day-before (get_or starts index 0) (get_or starts (index + 1) 0) more.0 more.3.0 more.2 in
-      record { inside = h; real = f.real; dates = this-and-rest.3; few = omega arith }
+  left-next = record { real = left.real; dates = left.dates.3; few = few later left.dates }
+    where
+      few : (later : List ℕ) → FirstDates last (start ∷ later) → FewDays last later
+      few [] d = tt
+      few (next ∷ rest) d = omega (arith, left.few, day-before start next d.0 d.3.0 d.2)
 
-  -- its days are real
-  pub period-real : {r : PeriodDays} → r ≡ period_days (date_of (get_or starts index 0)) (date_of (end_of last (get_or starts index 0) rest)) → RealDays r.first r.days
-  unfolding days_of
-  period-real e =
-      let end = period-ends in
-      let few = f.few in
-      rw e
-      (record {
-        known = refl;
-        few = omega (arith, end.before, end.inside);
-        all = (period-days (date_of (get_or starts index 0)) (date_of (end_of last (get_or starts index 0) rest)) start-real end.real end.ordered).dates;
-      })
+  pub start-real : is_date (date_of start) ≡ true
+  start-real = left.dates.0
 
-  -- the number of the day after
-  pub by_next : index + 1 < length starts → {d : Date} {n : ℕ} → d ≡ date_of (get_or starts (index + 1) 0) → n ≡ day_number d → n ≡ number_after last rest
-  by_next h e k = rw (drop-next starts (index + 1) h) (rw e at k)
+  -- up to the day after are the period's days
+  module _ {after from : ℕ} (a : after ≡ number_after last later) (f : from ≡ day_number (date_of start)) where
+    pub begun-before : from < after
+    begun-before = omega (arith, period-ends.ordered, period-ends.before)
 
-  pub by_last : length starts ≤ index + 1 → {d : Date} {n : ℕ} → d ≡ date_of last → n ≡ day_number d → n + 1 ≡ number_after last rest
-  by_last h e k = rw (drop_of_length-le starts {i = index + 1} h) (rw e at (ap (λ (n : ℕ). n + 1) k))
+    pub few-left : after - from ≤ 1_461
+    unfolding days_of
+    few-left = omega (arith, left.few, period-ends.before, period-ends.inside)
 
-  pub last-small : {d : Date} {n : ℕ} → d ≡ date_of last → n ≡ day_number d → n < 40_000
-  last-small e k = omega (arith, rw e at k, number_small (date_of last) f.real)
+    pub days-counted : after - from ≡ days_of (date_of start) (date_of (end_of last start later))
+    unfolding days_of
+    days-counted = omega (arith, period-ends.before)
 
-  pub days-left : {d : Date} {after from : ℕ} → d ≡ date_of (get_or starts index 0) → after ≡ number_after last rest → from ≡ day_number d → from ≤ after
-  days-left e a k =
-      let end = period-ends in
-      omega (arith, rw e at k, end.ordered, end.before)
+    pub all-real : AllDates (after - from) (date_of start)
+    all-real = rw days-counted (period-days (date_of start) (date_of (end_of last start later)) start-real period-ends.real period-ends.ordered).dates
 
-  pub period-is : {d : Date} {after from : ℕ} → d ≡ date_of (get_or starts index 0) → after ≡ number_after last rest → from ≡ day_number d →
-      ◌≡◌ {A = PeriodDays} (record { first = calendar_day d; days = after - from }) (period_days (date_of (get_or starts index 0)) (date_of (end_of last (get_or starts index 0) rest)))
-  unfolding days_of
-  period-is e a k =
-      let end = period-ends in
-      rw (e, a, rw e at k, end.before)
+    pub period-is : {period : PeriodDays} → period.first ≡ date_of start → period.days ≡ after - from → period ≡ period_days (date_of start) (date_of (end_of last start later))
+    period-is {period} first days = made (days ∙ days-counted) first
+      where
+        made : {d : Date} {n : ℕ} → period.days ≡ n → period.first ≡ d → period ≡ record { first = d; days = n }
+        made e f = rw (← e, ← f) refl
