@@ -22,7 +22,7 @@ append-small limit [] ys h k i = k i
 append-small limit (x ∷ xs) ys h k zero = h 0
 append-small limit (x ∷ xs) ys h k (suc i) = append-small limit xs ys (λ j. h (suc j)) k i
 
-positions-small : (clock : Clock) (powers : List ℕ) → ((i : ℕ) → get_or powers i 0 ≤ 40_000) → (i : ℕ) → get_or (positions clock powers) i 0 ≤ 40_000
+pub positions-small : (clock : Clock) (powers : List ℕ) → ((i : ℕ) → get_or powers i 0 ≤ 40_000) → (i : ℕ) → get_or (positions clock powers) i 0 ≤ 40_000
 unfolding positions
 positions-small Unchanged powers h = h
 positions-small Forward powers h = append-small 40_000 (take 8 powers) (drop 12 powers) (take-small 8 40_000 powers h) (drop-small 12 40_000 powers h)

@@ -1,44 +1,38 @@
--- The sum of a range's powers by turns, and a day's figures as one quotient: what goes in comes out as figures or as carry.
--- Assumes nothing.
-use mathlib.Core.Path.{◌≡◌, ◌∙◌, ap}
-use mathlib.Core.List.{List, [], ◌++◌}
-use Prim.Native.Nat.{ℕ, ◌+◌, ◌*◌, ◌/◌, ◌%◌, ◌≤◌, ◌<◌}
-use native.Mathlib.Omega.{arith}
-use native.Mathlib.Nat.{mul_comm}
-use native.Mathlib.Numerals.{add-one}
-use lib.ListN.{length, get_or}
-use lib.Seq.{slice, slice-cons, slice_empty}
+-- A day's figures as one quotient: what goes in comes out as figures or as carry. Assumes nothing.
+use Rattle.std.proofs.Common.{◌≡◌, refl, ◌∙◌, sym, ap, List, [], ◌∷◌, ◌++◌, ℕ, ◌+◌, ◌*◌, ◌/◌, ◌%◌, ◌≤◌, length, arith, length-append}
+use Rattle.std.specs.Prelude as std
+use Rattle.std.proofs.Math.Nat.{mul-le-mul}
+use Rattle.std.proofs.lemmas.List.Sums.{sum_by-cons}
 use Rattle.lists.specs.Lists.{sum}
 use Rattle.lists.proofs.Sums.{sum-append}
 use Rattle.calendar_days.specs.declared.Clock.{Clock}
 use Rattle.calendar_days.specs.Days.{positions}
-use Rattle.carry.specs.Carry.{largest_carry}
-use Rattle.carry.proofs.Carry.{carry-small, telescope}
-use Rattle.carry_day.specs.Inside.{first_end, second_start}
-use Rattle.carry_day.proofs.TwoRanges.{ranges}
+use Rattle.carry_quotients.specs.Inside.{SmallPowers}
+use Rattle.carry_quotients.proofs.Figures.{sum-small, comes}
+use Rattle.carry_day.proofs.TwoRanges.{positions-small}
 use Rattle.carry_total.specs.Inside.{DayTotal}
 
--- what is summed so far, with the powers left
-pub one_more : (from to : ℕ) (day : List ℕ) (total : ℕ) {all : ℕ} → from < to → to ≤ length day →
-    total + sum (slice from to day) ≡ all → total + get_or day from 0 + sum (slice (from + 1) to day) ≡ all
+-- std's sum of a list
+pub sums : (xs : List ℕ) → std.sum xs ≡ sum xs
 unfolding sum
-one_more from to day total h k e = rw (add-one from) (omega (arith, ap sum (slice-cons from to day 0 h k), e))
-
-pub all-summed : (from to : ℕ) (day : List ℕ) {total all : ℕ} → from ≡ to → total + sum (slice from to day) ≡ all → total ≡ all
-unfolding sum
-all-summed from to day h e =
-    let none : slice from to day ≡ [] = rw h (slice_empty to day) in
-    omega (arith, rw none at e)
+sums [] = refl
+sums (x ∷ xs) = sum_by-cons (λ y. y) x xs ∙ ap (λ (n : ℕ). x + n) (sums xs)
 
 -- the day's two ranges, summed
-pub day-total : (powers : List ℕ) (clock : Clock) {yearly carry end begin first second : ℕ} → length powers ≡ 96 → carry ≤ largest_carry →
-    end ≡ first_end clock → begin ≡ second_start clock → first ≡ sum (slice 0 end powers) → second ≡ sum (slice begin 96 powers) →
-    DayTotal powers clock yearly carry
-    (record { total = ((first + second) * yearly + carry) / 40_000; carry = ((first + second) * yearly + carry) % 40_000 })
-day-total powers clock {yearly} {carry} {end} {begin} {first} {second} all small he hb f g =
-    let run = positions clock powers in
-    let parts : run ≡ slice 0 end powers ++ slice begin 96 powers = rw (he, hb) (ranges clock powers all) in
-    let both : sum run ≡ first + second = ap sum parts ∙ (rw (f, g) (sum-append (slice 0 end powers) (slice begin 96 powers))) in
-    let whole = rw (both, mul_comm yearly (first + second)) at (telescope yearly carry run) in
-    let rest = carry-small yearly carry run small in
-    record { total_is = omega arith; carry_is = omega arith }
+module _ (powers one two : List ℕ) (clock : Clock) (yearly carry : ℕ) (joined : one ++ two ≡ positions clock powers) (small : SmallPowers powers yearly carry) where
+  pub both : std.sum one + std.sum two ≡ sum (positions clock powers)
+  both = rw (sums one, sums two, ← joined) (sym (sum-append one two))
+
+  pub power-small : length one ≤ 96 → length two ≤ 96 → std.sum one + std.sum two ≤ 192 * 40_000
+  power-small h k =
+      let short : length (positions clock powers) ≤ 192 = rw (← joined) (omega (arith, length-append one two)) in
+      omega (arith, both, sum-small (positions clock powers) (positions-small clock powers small.small))
+
+  pub energy-small : length one ≤ 96 → length two ≤ 96 → (std.sum one + std.sum two) * yearly ≤ 192 * 40_000 * 1_000_000_000
+  energy-small h k = mul-le-mul (power-small h k) small.yearly_small
+
+  pub day-total : DayTotal powers clock yearly carry
+      (record { total = ((std.sum one + std.sum two) * yearly + carry) / 40_000; carry = ((std.sum one + std.sum two) * yearly + carry) % 40_000 })
+  day-total =
+      let whole = comes yearly (positions clock powers) carry small.in_range in
+      rw both (record { total_is = omega (arith, whole.total); carry_is = omega (arith, whole.carry_left) })

@@ -1,17 +1,10 @@
 -- What a day's figures come to, where none is stored. No definition of document 01.
-use Rattle.std.specs.Prelude.{◌≡◌, List, ℕ, ◌≤◌, length, get_or}
+use Rattle.std.specs.Prelude.{◌≡◌, List, ℕ}
 use Rattle.lists.specs.Lists.{sum}
 use Rattle.calendar_days.specs.declared.Clock.{Clock}
 use Rattle.calendar_days.specs.Days.{positions}
 use Rattle.carry.specs.Carry.{figures, last_carry}
 use Rattle.carry_quotients.specs.declared.Carried.{Carried}
-
--- a range lies in a day, whose powers are at most 4,000 W (a factor is at most 2)
-pub record SmallRange (from to : ℕ) (day : List ℕ) : Type 0 where
-  pub ordered : from ≤ to
-  pub within : to ≤ 96
-  pub whole : length day ≡ 96
-  pub small : (i : ℕ) → get_or day i 0 ≤ 40_000
 
 -- the sum of the figures of the day's positions after the clock change, and the carry that they leave
 pub record DayTotal (powers : List ℕ) (clock : Clock) (yearly carry : ℕ) (r : Carried) : Type 0 where
