@@ -1,6 +1,6 @@
 -- Where a wanted group stands: what it tells that it was found, and what its table holds. Assumes nothing.
 use Rattle.refusal.specs.Questions.{answered}
-use Rattle.std.specs.Prelude.{Ok, Err}
+use Rattle.std.specs.Prelude.{Result, Ok, Err}
 use mathlib.Core.Path.{◌≡◌, refl, sym, ◌∙◌, ap}
 use mathlib.Core.Bool.{Bool, true, false, cond}
 use mathlib.Core.List.{List}
@@ -25,27 +25,44 @@ use Rattle.file_layout.specs.Inside.{LaidOut}
 use Rattle.file_check.specs.Check.{file_check}
 use Rattle.file_check.proofs.Check.{accepted, value-bound}
 use Rattle.file_group.specs.Group.{offset_among, group_offset, group_question, check, values_offset, table_of}
-use Rattle.file_group.specs.Inside.{verdict_of, value_bytes}
+use Rattle.file_layout.specs.Inside.{value_bytes}
 
--- one turn of the search, by whether the code at `at` is the group's, and its end
-module _ (layout : Layout) (file : List ℕ) (group : ℕ) where
-  pub find-here : (n at : ℕ) → 0 < n → byte_at file at ≡ group → offset_among layout file group n at ≡ at
-  unfolding offset_among
-  find-here zero at h e = absurd (omega arith)
-  find-here (suc n) at h e = rw (eq-eqb _ _ e)
+-- k of the n codes from `at` on were searched, and none of them is the group's
+pub record Searched (layout : Layout) (file : List ℕ) (group n at k : ℕ) : Type 0 where
+  pub rest : offset_among layout file group (n - k) (at + k * profile_length layout) ≡ offset_among layout file group n at
 
-  pub find-later : (n at : ℕ) → 0 < n → (byte_at file at ≡ group → ⊥) →
-      offset_among layout file group n at ≡ offset_among layout file group (n - 1) (at + profile_length layout)
-  unfolding offset_among
-  find-later zero at h e = absurd (omega arith)
-  find-later (suc n) at h e =
-      let m : suc n - 1 ≡ n = omega arith in
-      rw (ne_eqb _ _ e, m)
+module _ {layout : Layout} {file : List ℕ} {group n at : ℕ} where
+  pub none_searched : Searched layout file group n at 0
+  none_searched =
+      let e : n - 0 ≡ n = omega arith in
+      let f : at + 0 * profile_length layout ≡ at = omega arith in
+      record { rest = rw (e, f) }
 
-  pub find-end : (n at : ℕ) → n ≤ 0 → offset_among layout file group n at ≡ at
-  unfolding offset_among
-  find-end zero at h = refl
-  find-end (suc n) at h = absurd (omega arith)
+  module _ {k : ℕ} (search : Searched layout file group n at k) where
+    -- the code after them is the group's, or is not
+    pub found-here : k < n → byte_at file (at + k * profile_length layout) ≡ group →
+        at + k * profile_length layout ≡ offset_among layout file group n at
+    unfolding offset_among
+    found-here h e =
+        let more : n - k ≡ suc (n - (k + 1)) = omega arith in
+        let here = rw more at search.rest in
+        rw (eq-eqb _ _ e) at here
+
+    pub searched_more : k < n → (byte_at file (at + k * profile_length layout) ≡ group → ⊥) → Searched layout file group n at (k + 1)
+    unfolding offset_among
+    searched_more h e =
+        let more : n - k ≡ suc (n - (k + 1)) = omega arith in
+        let next : at + k * profile_length layout + profile_length layout ≡ at + (k + 1) * profile_length layout = omega arith in
+        let here = rw more at search.rest in
+        record { rest = rw (ne_eqb _ _ e, next) at here }
+
+    -- none is
+    pub searched_all : n ≤ k → k ≤ n → offset_among layout file group n at ≡ at + n * profile_length layout
+    unfolding offset_among
+    searched_all h l =
+        let none : n - k ≡ 0 = omega arith in
+        let all : k ≡ n = omega arith in
+        sym (rw (none, all) at search.rest)
 
 -- the group's code stands at `found`, which is the code of the k-th of n profiles from `at` on
 pub record Stands (layout : Layout) (file : List ℕ) (group n at found : ℕ) : Type 0 where
@@ -87,7 +104,7 @@ module _ (file : List ℕ) (group place : ℕ) where
   group-stands h = ltb-true _ _ (ask-passed _ (NoGroup place) h)
 
 -- what an answer tells of the questions asked
-pub found_at : (v : Verdict) {at offset : ℕ} → At at ≡ answered v offset → (v ≡ Pass) × (at ≡ offset)
+pub found_at : (v : Verdict) {at offset : ℕ} → Ok at ≡ answered v offset → (v ≡ Pass) × (at ≡ offset)
 found_at (Ok _) h = (refl, cc)
 found_at (Err r) h = let z : ◌≡◌ {A = ℕ} 0 1 = cc in absurd (omega arith)
 
@@ -96,15 +113,11 @@ found-refused (Ok _) offset h = let z : ◌≡◌ {A = ℕ} 0 1 = cc in absurd (
 found-refused (Err r) offset h = cc
 
 -- and the other way round
-pub answers_at : {v : Verdict} {at offset : ℕ} → v ≡ Pass → at ≡ offset → At at ≡ answered v offset
+pub answers_at : {v : Verdict} {at offset : ℕ} → v ≡ Pass → at ≡ offset → Ok at ≡ answered v offset
 answers_at p e = rw (p, e)
 
 pub answers-refused : {v : Verdict} {r : Refusal} (offset : ℕ) → v ≡ Err r → Err r ≡ answered v offset
 answers-refused offset h = rw h
-
-pub verdict-of-found : (v : Verdict) (offset : ℕ) → verdict_of (answered v offset) ≡ v
-verdict-of-found (Ok _) offset = refl
-verdict-of-found (Err r) offset = refl
 
 -- a group of an accepted file: its profile lies in the file
 pub record Checked (file : List ℕ) (group : ℕ) : Type 0 where
@@ -142,13 +155,13 @@ pub record FoundAt (file : List ℕ) (group at : ℕ) : Type 0 where
   pub place : at ≡ group_offset file group
 
 module _ (file : List ℕ) (group : ℕ) {at : ℕ} where
-  pub found-checked : {found : Found} → found ≡ At at → found ≡ answered (check file group) (group_offset file group) →
+  pub found-checked : {found : Result ℕ Refusal} → found ≡ Ok at → found ≡ answered (check file group) (group_offset file group) →
       (check file group ≡ Pass) × FoundAt file group at
   found-checked e h =
       let told = found_at _ (sym e ∙ h) in
       (told.0, record { checked = check-passed file group told.0; place = told.1 })
 
-  pub found-besides : (place : ℕ) → file_check file ≡ Pass → At at ≡ answered (group_question file group place) (group_offset file group) → FoundAt file group at
+  pub found-besides : (place : ℕ) → file_check file ≡ Pass → Ok at ≡ answered (group_question file group place) (group_offset file group) → FoundAt file group at
   found-besides place p h =
       let told = found_at _ h in
       record { checked = checked file group place p told.0; place = told.1 }
