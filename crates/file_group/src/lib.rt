@@ -1,8 +1,9 @@
 // A wanted group of a profile file (document 01): question 6, and where the group's code stands.
 #![tactic(auto)]
 
-ghost use Rattle.std.specs.Prelude.{◌≡◌};
+ghost use Rattle.std.specs.Prelude.{◌≡◌, ◌+◌, ◌≤◌, length, IfOk};
 ghost use Rattle.refusal.specs.Questions.{answered, reported};
+ghost use Rattle.file_layout.specs.Header.{layout_of, profile_length};
 ghost use Rattle.file_group.specs.Group.{group_offset, group_question, check};
 
 use file_layout::{HEADER_LENGTH, ProfileFile};
@@ -10,7 +11,8 @@ use refusal::Refusal;
 
 // Question 6: where the group's code stands. A refusal names `place`.
 pub fn find(file: ProfileFile, group: u8, place: usize) -> Result<usize, Refusal>
-    ensures { result ≡ answered (group_question file.entry.bytes.now group place) (group_offset file.entry.bytes.now group) }
+    ensures value { result ≡ answered (group_question file.entry.bytes.now group place) (group_offset file.entry.bytes.now group) }
+    ensures inside { IfOk result (λ at. at + profile_length (layout_of file.entry.bytes.now) ≤ length file.entry.bytes.now) }
 {
     let layout = file.layout();
     for k in 0..layout.count {
@@ -24,7 +26,8 @@ pub fn find(file: ProfileFile, group: u8, place: usize) -> Result<usize, Refusal
 
 // Questions 1 to 6: where the group's code stands, in any file.
 pub fn find_checked(file: &[u8], group: u8) -> Result<usize, Refusal>
-    ensures { result ≡ answered (check file.now group) (group_offset file.now group) }
+    ensures value { result ≡ answered (check file.now group) (group_offset file.now group) }
+    ensures inside { IfOk result (λ at. at + profile_length (layout_of file.now) ≤ length file.now) }
 {
     find(file_check::check_file(file)?, group, 0)
 }

@@ -1,5 +1,5 @@
 -- `file_group::find` meets its contract: a code that is found stands in the file, and where none is found the search ends at its end.
-use Rattle.std.proofs.Common.{◌≡◌, ap, ℕ, ◌+◌, ◌*◌, ◌≤◌, ◌<◌, List, Ok, Err, arith}
+use Rattle.std.proofs.Common.{◌≡◌, length, ap, ℕ, ◌+◌, ◌*◌, ◌≤◌, ◌<◌, List, Ok, Err, arith}
 use native.Mathlib.Nat.{mul-le-mul_right}
 use Rattle.big_endian.specs.BigEndian.{byte_at}
 use Rattle.refusal.specs.declared.Refusal.TheVariants.{NoGroup}
@@ -20,6 +20,11 @@ module _ (file : List ℕ) (group place k : ℕ) (laid : LaidOut (layout_of file
       let last = mul-le-mul_right {m = k + 1} {n = (layout_of file).count} (profile_length (layout_of file)) (omega arith) in
       answers_at (group-there file group place (omega (arith, found, last, laid.whole, laid.sound.coded))) found
 
+  inside : k < (layout_of file).count → header_length + k * profile_length (layout_of file) + profile_length (layout_of file) ≤ length file
+  inside h =
+      let last = mul-le-mul_right {m = k + 1} {n = (layout_of file).count} (profile_length (layout_of file)) (omega arith) in
+      omega (arith, last, laid.whole)
+
   missing : (layout_of file).count ≤ k → k ≤ (layout_of file).count →
       Err (NoGroup place) ≡ answered (group_question file group place) (group_offset file group)
   missing h l = answers-refused _ (group-missing file group place (omega (arith, searched_all search h l, laid.whole)))
@@ -31,7 +36,11 @@ returns-then-file-at c =
     let code = rw (c.profile_length.ensures, c.layout-layout.ensures.0) at c.if-file-at.true in
     let search = rw c.layout-layout.ensures.0 at l.invariant in
     let count = ap (λ (layout : Layout). layout.count) c.layout-layout.ensures.0 in
-    rw (c.profile_length.ensures, c.layout-layout.ensures.0) (stands_here a.file.bytes.now a.group a.place l.k a.file.laid search (omega (arith, count)) code)
+    rw (c.profile_length.ensures, c.layout-layout.ensures.0)
+    (record {
+      value = stands_here a.file.bytes.now a.group a.place l.k a.file.laid search (omega (arith, count)) code;
+      inside = inside a.file.bytes.now a.group a.place l.k a.file.laid search (omega (arith, count));
+    })
 
 pub loop-k-preserved : goal.loop-k-preserved
 loop-k-preserved c =
@@ -43,4 +52,7 @@ returns c =
     let a = c.args in
     let search = rw c.layout-layout.ensures.0 at c.loop-k.invariant in
     let count = ap (λ (layout : Layout). layout.count) c.layout-layout.ensures.0 in
-    missing a.file.bytes.now a.group a.place c.loop-k.k a.file.laid search (omega (arith, count)) (omega (arith, count))
+    record {
+      value = missing a.file.bytes.now a.group a.place c.loop-k.k a.file.laid search (omega (arith, count)) (omega (arith, count));
+      inside = tt;
+    }
