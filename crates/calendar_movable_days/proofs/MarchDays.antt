@@ -1,5 +1,5 @@
 -- The dates of the days of March, counted on through April, May and June. Assumes nothing.
-use mathlib.Core.Path.{◌≡◌, refl, sym, ◌∙◌, ap}
+use mathlib.Core.Path.{◌≡◌, refl, ◌∙◌, ap}
 use Prim.Native.Nat.{ℕ, zero, suc, ◌+◌, ◌-◌, ◌*◌, ◌≤◌, ◌<◌}
 use native.Mathlib.Omega.{arith}
 use Rattle.calendar_dates.specs.declared.Date.{Date}
@@ -33,18 +33,18 @@ module _ (year start month : ℕ) (begins : days_later start (record { year = ye
       ∙ within k (record { year = year; month = month; day = 1 }) (omega arith))
       ∙ rw left
 
-pub march : (year : ℕ) {day : ℕ} → 1 ≤ day → day ≤ 31 → year * 10_000 + 300 + day ≡ number_of (march_day year day)
+pub march : (year day : ℕ) → 1 ≤ day → day ≤ 31 → number_of (march_day year day) ≡ year * 10_000 + 300 + day
 unfolding month_length days_later
-march year {day} a b = omega (arith, in-month year 0 3 refl day (omega arith) (omega arith))
+march year day a b = omega (arith, in-month year 0 3 refl day (omega arith) (omega arith))
 
-pub april : (year : ℕ) {day : ℕ} → 31 < day → day ≤ 61 → year * 10_000 + 400 + (day - 31) ≡ number_of (march_day year day)
+pub april : (year day : ℕ) → 31 < day → day ≤ 61 → number_of (march_day year day) ≡ year * 10_000 + 400 + (day - 31)
 unfolding month_length next_day days_later
-april year {day} a b = sym (in-month year 31 4 refl day a (omega arith))
+april year day a b = in-month year 31 4 refl day a (omega arith)
 
-pub may : (year : ℕ) {day : ℕ} → 61 < day → day ≤ 92 → year * 10_000 + 500 + (day - 61) ≡ number_of (march_day year day)
+pub may : (year day : ℕ) → 61 < day → day ≤ 92 → number_of (march_day year day) ≡ year * 10_000 + 500 + (day - 61)
 unfolding month_length next_day days_later
-may year {day} a b = sym (in-month year 61 5 refl day a (omega arith))
+may year day a b = in-month year 61 5 refl day a (omega arith)
 
-pub june : (year : ℕ) {day : ℕ} → 92 < day → day ≤ 122 → year * 10_000 + 600 + (day - 92) ≡ number_of (march_day year day)
+pub june : (year day : ℕ) → 92 < day → day ≤ 122 → number_of (march_day year day) ≡ year * 10_000 + 600 + (day - 92)
 unfolding month_length next_day days_later
-june year {day} a b = sym (in-month year 92 6 refl day a (omega arith))
+june year day a b = in-month year 92 6 refl day a (omega arith)
