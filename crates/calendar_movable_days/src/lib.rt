@@ -49,6 +49,7 @@ impl Year {
     // Easter as a day of March, by a formula for the years of the span, in which the two corrections do not change.
     pub fn easter_day(self) -> u32
         ensures same { result ≡ easter_day self }
+        ensures span { InSpan self }
         ensures range { (23 ≤ result) × (result ≤ 56) }
     {
         let year = self.number;

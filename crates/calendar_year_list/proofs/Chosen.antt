@@ -7,30 +7,15 @@ use Prim.Native.Nat.{ℕ, ◌+◌, ◌/◌, ◌%◌}
 use native.Mathlib.Nat.{zero-add}
 use native.Mathlib.Omega.{arith}
 use lib.Dec.{ltb, eqb}
-use lib.ListN.{drop}
 use borrow.Author.Tests.{lt-ltb}
 use Rattle.calendar_dates.specs.declared.Date.{Date}
 use Rattle.calendar_dates.specs.Dates.{number_of}
 use Rattle.calendar_holidays.specs.Holidays.{listed}
 use Rattle.calendar_public_holidays.specs.Days.{federal_days, regional_days}
-use Rattle.calendar_public_holidays.specs.YearHolidays.{chosen, chosen_days, inserted, in_order, year_holidays}
-use Rattle.calendar_year_list.specs.Inside.{Entry, federal, regional, calendar_days, gathered}
+use Rattle.calendar_public_holidays.specs.YearHolidays.{chosen, chosen_days, in_order, year_holidays}
+use Rattle.calendar_year_list.specs.declared.Entry.{Entry}
+use Rattle.calendar_year_list.specs.Inside.{federal, regional, calendar_days, wanted}
 use Rattle.calendar_public_holidays.proofs.InOrder.{order-listed, order-rising, one_list}
-
--- the dates that are wanted
-abbrev wanted : List Entry → List ℕ
-wanted [] = []
-wanted (e ∷ entries) = cond e.wanted (e.date ∷ wanted entries) (wanted entries)
-
-gathered-in-order : (entries : List Entry) → gathered entries ≡ in_order (wanted entries)
-unfolding in_order gathered
-gathered-in-order [] = refl
-gathered-in-order (e ∷ entries) = go e.wanted (gathered-in-order entries)
-  where
-    go : (b : Bool) → gathered entries ≡ in_order (wanted entries) →
-        cond b (inserted e.date (gathered entries)) (gathered entries) ≡ in_order (cond b (e.date ∷ wanted entries) (wanted entries))
-    go true h = ap (inserted e.date) h
-    go false h = h
 
 -- How often a date is met among the entries that are wanted.
 abbrev meets : ℕ → Entry → ℕ
@@ -94,12 +79,11 @@ count_same year choice d =
     let bit-5 : choice / 16 / 2 ≡ choice / 32 = omega arith in
     rw (bit-2, bit-3, bit-4, bit-5) (orders _ _ _ _ _ _ _ _ _ _ _ _ _ _ _ _ _)
 
--- all of the calendar gathered is the holiday list
-pub gathers-list : (year choice : ℕ) → gathered (drop 0 (calendar_days year choice)) ≡ year_holidays year choice
+-- those of the calendar that are wanted, in order, are the holiday list
+pub wanted-list : (year choice : ℕ) → in_order (wanted (calendar_days year choice)) ≡ year_holidays year choice
 unfolding year_holidays
-gathers-list year choice =
-    gathered-in-order (calendar_days year choice)
-    ∙ one_list (in_order (wanted (calendar_days year choice))) (in_order (chosen_days year choice)) (order-rising (wanted (calendar_days year choice))) (order-rising (chosen_days year choice))
+wanted-list year choice =
+    one_list (in_order (wanted (calendar_days year choice))) (in_order (chosen_days year choice)) (order-rising (wanted (calendar_days year choice))) (order-rising (chosen_days year choice))
     (λ d.
     order-listed d (wanted (calendar_days year choice))
     ∙ listed-counted d (calendar_days year choice)

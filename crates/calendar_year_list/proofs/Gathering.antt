@@ -1,99 +1,117 @@
--- A day put in front of the dates gathered so far, none of which is earlier. Assumes nothing.
-use mathlib.Core.Path.{◌≡◌, refl, sym, ◌∙◌, subst}
-use mathlib.Core.Bool.{Bool, true, false, not, cond}
-use mathlib.Core.List.{List, [], ◌∷◌}
-use Prim.Native.Nat.{ℕ, suc, ◌-◌, ◌≤◌, ◌<◌}
+-- Days gone through in the calendar's order, each date put behind the others unless it is there already. Assumes nothing.
+use mathlib.Core.Path.{◌≡◌, refl, sym, ◌∙◌, ap}
+use mathlib.Core.Bool.{Bool, true, false, not, cond, ◌&&◌, ◌||◌}
+use mathlib.Core.List.{List, [], ◌∷◌, ◌++◌}
+use Prim.Native.Nat.{ℕ, ◌+◌, ◌≤◌, ◌<◌}
 use native.Mathlib.Omega.{arith}
-use native.Mathlib.Nat.{le_refl}
-use lib.Dec.{ltb, eqb}
-use lib.ListN.{length, get_or, drop, set, length-set}
-use lib.Seq.{drop-length, drop-cons, drop-set-lt, get_or-set_same}
-use borrow.Author.Tests.{lt-ltb, le-ltb, eq-eqb, eqb-true, eqb-false}
-use Rattle.calendar_public_holidays.specs.YearHolidays.{inserted}
-use Rattle.calendar_year_list.specs.Inside.{Gathered, list_of, NotBefore, Ready, Added}
+use native.Mathlib.Numerals.{add-one}
+use lib.ListN.{length, get_or, drop}
+use lib.Seq.{drop-cons}
+use lib.Dec.{eqb}
+use borrow.Author.Tests.{eqb-true, eqb-false}
+use Rattle.lists.specs.Lists.{Each, Rising}
+use Rattle.calendar_holidays.specs.Holidays.{listed}
+use Rattle.calendar_public_holidays.specs.YearHolidays.{in_order}
+use Rattle.calendar_public_holidays.proofs.InOrder.{order-listed, order-rising, one_list}
+use Rattle.calendar_year_list.specs.declared.Entry.{Entry}
+use Rattle.calendar_year_list.specs.Inside.{NotFalling, wanted}
 
--- a date in front of a list that begins with it, or with a later one
-insert-first : (date next : ℕ) (dates : List ℕ) → date ≤ next →
-    cond (eqb next date) (next ∷ dates) (date ∷ next ∷ dates) ≡ inserted date (next ∷ dates)
-unfolding inserted
-insert-first date next dates h = go (eqb next date) refl
+-- the dates with those of some more days behind them
+abbrev pub appended : List ℕ → List Entry → List ℕ
+appended dates [] = dates
+appended dates (e ∷ entries) = appended (cond (e.wanted && not (listed e.date dates)) (dates ++ e.date ∷ []) dates) entries
+
+-- both tests fail
+neither : (a b : Bool) → (a || b) ≡ false → (a ≡ false) × (b ≡ false)
+neither false b h = (refl, h)
+neither true b h = let z : ◌≡◌ {A = ℕ} 0 1 = cc in absurd (omega arith)
+
+-- a date that is in no list before it stays in order behind the others
+rising-behind : (date : ℕ) (dates : List ℕ) → Rising dates → Each (λ x. x ≤ date) dates → listed date dates ≡ false → Rising (dates ++ date ∷ [])
+unfolding listed
+rising-behind date [] r b h = (tt, tt)
+rising-behind date (x ∷ []) r b h = (omega (arith, b.0, eqb-false x date (neither (eqb x date) false h).0), (tt, tt))
+rising-behind date (x ∷ y ∷ dates) r b h = (r.0, rising-behind date (y ∷ dates) r.1 b.1 (neither (eqb x date) (listed date (y ∷ dates)) h).1)
+
+-- which dates a list has with one more
+or-false : (a : Bool) → (a || false) ≡ a
+or-false true = refl
+or-false false = refl
+
+or_assoc : (a b c : Bool) → ((a || b) || c) ≡ (a || (b || c))
+or_assoc true b c = refl
+or_assoc false b c = refl
+
+listed-behind : (d date : ℕ) (dates : List ℕ) → listed d (dates ++ date ∷ []) ≡ (listed d dates || eqb date d)
+unfolding listed
+listed-behind d date [] = or-false (eqb date d)
+listed-behind d date (x ∷ dates) =
+    ap (λ (rest : Bool). eqb x d || rest) (listed-behind d date dates) ∙ sym (or_assoc (eqb x d) (listed d dates) (eqb date d))
+
+appended-listed : (d : ℕ) (dates : List ℕ) (entries : List Entry) → listed d (appended dates entries) ≡ (listed d dates || listed d (wanted entries))
+unfolding listed
+appended-listed d dates [] = sym (or-false (listed d dates))
+appended-listed d dates (e ∷ entries) = go e.wanted (listed e.date dates) refl (λ more. appended-listed d more entries)
   where
-    go : (b : Bool) → eqb next date ≡ b →
-        cond b (next ∷ dates) (date ∷ next ∷ dates)
-        ≡ cond (ltb date next) (date ∷ next ∷ dates) (cond (eqb date next) (next ∷ dates) (next ∷ inserted date dates))
-    go true e =
-        let same : next ≡ date = eqb-true next date e in
-        rw (le-ltb date next (omega arith), eq-eqb date next (sym same))
-    go false e = rw (lt-ltb date next (omega (arith, h, eqb-false next date e)))
+    there : (rest b : Bool) → eqb e.date d ≡ b → listed e.date dates ≡ true → (listed d dates || rest) ≡ (listed d dates || (b || rest))
+    there rest true same l =
+        let here : listed d dates ≡ true = rw (eqb-true e.date d same) at l in rw here
+    there rest false other l = refl
 
-insert-empty : (date : ℕ) → (date ∷ []) ≡ inserted date []
-unfolding inserted
-insert-empty date = refl
+    go : (w b : Bool) → listed e.date dates ≡ b → ((more : List ℕ) → listed d (appended more entries) ≡ (listed d more || listed d (wanted entries))) →
+        listed d (appended (cond (w && not b) (dates ++ e.date ∷ []) dates) entries) ≡ (listed d dates || listed d (cond w (e.date ∷ wanted entries) (wanted entries)))
+    go false b l rest = rest dates
+    go true true l rest = rest dates ∙ there _ (eqb e.date d) refl l
+    go true false l rest =
+        rest (dates ++ e.date ∷ [])
+        ∙ rw (listed-behind d e.date dates) (or_assoc (listed d dates) (eqb e.date d) (listed d (wanted entries)))
 
--- the dates from a place on, where there are any, and where there are none
-pub begins : (dates : List ℕ) (from date : ℕ) → from < length dates → NotBefore date (drop from dates) →
-    cond (eqb (get_or dates from 0) date) (drop from dates) (date ∷ drop from dates) ≡ inserted date (drop from dates)
-begins dates from date h b =
-    let next : drop from dates ≡ get_or dates from 0 ∷ drop (suc from) dates = drop-cons dates from 0 h in
-    let first : date ≤ get_or dates from 0 = subst (NotBefore date) next b in
-    rw next (insert-first date (get_or dates from 0) (drop (suc from) dates) first)
+-- no date of a list is later than a day
+abbrev UpTo : List ℕ → Entry → Type 0
+UpTo dates e = Each (λ x. x ≤ e.date) dates
 
-drop_past : (dates : List ℕ) (from : ℕ) → length dates ≤ from → from ≤ length dates → drop from dates ≡ []
-drop_past dates from a b =
-    let e : from ≡ length dates = omega arith in
-    rw e (drop-length dates)
+with-one-more : (date : ℕ) (dates : List ℕ) (e : Entry) → date ≤ e.date → UpTo dates e → UpTo (dates ++ date ∷ []) e
+with-one-more date [] e h u = (h, tt)
+with-one-more date (x ∷ dates) e h u = (u.0, with-one-more date dates e h u.1)
 
-pub ends : (g : Gathered) (date : ℕ) → Ready 1 date g → 17 ≤ g.from → (date ∷ list_of g) ≡ inserted date (list_of g)
-ends g date r h =
-    let none : drop g.from g.dates ≡ [] = drop_past g.dates g.from (omega (arith, r.whole)) (omega (arith, r.whole, r.inside)) in
-    rw none (insert-empty date)
+all-more : (date : ℕ) (dates : List ℕ) (entries : List Entry) → Each (λ later. date ≤ later.date) entries → Each (UpTo dates) entries → Each (UpTo (dates ++ date ∷ [])) entries
+all-more date dates [] a u = tt
+all-more date dates (e ∷ entries) a u = (with-one-more date dates e a.0 u.0, all-more date dates entries a.1 u.1)
 
--- the list with the day stored in front
-store-first : (dates : List ℕ) (at date : ℕ) → at < length dates → drop at (set dates at date) ≡ date ∷ drop (suc at) dates
-store-first dates at date h =
-    let inside : at < length (set dates at date) = omega (arith, length-set dates at date) in
-    drop-cons (set dates at date) at 0 inside
-    ∙ rw (get_or-set_same dates at date 0 h, drop-set-lt (suc at) dates at date (omega arith))
+appended-rising : (dates : List ℕ) (entries : List Entry) → Rising dates → Each (UpTo dates) entries → NotFalling entries → Rising (appended dates entries)
+appended-rising dates [] r u n = r
+appended-rising dates (e ∷ entries) r u n = go e.wanted (listed e.date dates) refl (λ more s v. appended-rising more entries s v n.1)
+  where
+    go : (w b : Bool) → listed e.date dates ≡ b → ((more : List ℕ) → Rising more → Each (UpTo more) entries → Rising (appended more entries)) →
+        Rising (appended (cond (w && not b) (dates ++ e.date ∷ []) dates) entries)
+    go false b l rest = rest dates r u.1
+    go true true l rest = rest dates r u.1
+    go true false l rest = rest (dates ++ e.date ∷ []) (rising-behind e.date dates r u.0 l) (all-more e.date dates entries n.0 u.1)
 
--- what `!wanted` tells
-is_false : (b : Bool) → not b ≡ true → b ≡ false
-is_false true h = sym h
-is_false false h = refl
+none-later : (entries : List Entry) → Each (UpTo []) entries
+none-later [] = tt
+none-later (e ∷ entries) = (tt, none-later entries)
 
-is_true : (b : Bool) → not b ≡ false → b ≡ true
-is_true true h = refl
-is_true false h = sym h
+-- so the days come to their dates in order
+pub appended-in-order : (entries : List Entry) → NotFalling entries → appended [] entries ≡ in_order (wanted entries)
+unfolding listed
+appended-in-order entries n =
+    one_list (appended [] entries) (in_order (wanted entries)) (appended-rising [] entries tt (none-later entries) n) (order-rising (wanted entries))
+    (λ d. appended-listed d [] entries ∙ sym (order-listed d (wanted entries)))
 
--- no date is before an earlier one
-pub earlier : (next date : ℕ) (dates : List ℕ) → next ≤ date → NotBefore date dates → NotBefore next dates
-earlier next date [] h b = tt
-earlier next date (first ∷ dates) h b = omega (arith, h, b)
+-- One day gone through, by what is asked of it.
+module _ (entries : List Entry) (i : ℕ) (default : Entry) (dates : List ℕ) (h : i < length entries) where
+  abbrev day : Entry
+  day = get_or entries i default
 
--- What `with_day` comes to, by its three ways.
-module _ (g : Gathered) (date : ℕ) (wanted : Bool) (r : Ready 1 date g) where
-  stays : (days : ℕ) → Ready (suc days) date g → Ready days date g
-  stays days s = record { whole = r.whole; room = omega (arith, s.room); inside = r.inside; not_before = r.not_before }
+  turn : appended (cond (day.wanted && not (listed day.date dates)) (dates ++ day.date ∷ []) dates) (drop (i + 1) entries) ≡ appended dates (drop i entries)
+  turn = rw (add-one, drop-cons entries i default h) refl
 
-  pub not-wanted : not wanted ≡ true → Added g date wanted g
-  not-wanted w = record { list = rw (is_false wanted w); ready = stays }
+  pub not-wanted : day.wanted ≡ false → appended dates (drop (i + 1) entries) ≡ appended dates (drop i entries)
+  not-wanted w = rw w at turn
 
-  pub there-already : not wanted ≡ false → (b : Bool) → cond b (list_of g) (date ∷ list_of g) ≡ inserted date (list_of g) → b ≡ true → Added g date wanted g
-  there-already w b e t = record { list = rw (is_true wanted w) (rw t at e); ready = stays }
+  pub there-already : day.wanted ≡ true → listed day.date dates ≡ true → appended dates (drop (i + 1) entries) ≡ appended dates (drop i entries)
+  there-already w l = rw (w, l) at turn
 
-  pub put-in-front : not wanted ≡ false → (b : Bool) → cond b (list_of g) (date ∷ list_of g) ≡ inserted date (list_of g) → b ≡ false →
-      Added g date wanted (record { dates = set g.dates (g.from - 1) date; from = g.from - 1 })
-  put-in-front w b e f =
-      let at : ℕ = g.from - 1 in
-      let next : suc at ≡ g.from = omega (arith, r.room) in
-      let stored : drop at (set g.dates at date) ≡ date ∷ drop g.from g.dates =
-      rw next at (store-first g.dates at date (omega (arith, r.whole, r.inside, r.room))) in
-      record {
-        list = rw (is_true wanted w) (stored ∙ rw f at e);
-        ready = λ days s.
-            record {
-              whole = length-set g.dates at date ∙ r.whole;
-              room = omega (arith, s.room);
-              inside = omega (arith, r.inside);
-              not_before = subst (NotBefore date) (sym stored) (le_refl date);
-            };
-      }
+  pub put-behind : day.wanted ≡ true → listed day.date dates ≡ false → appended (dates ++ day.date ∷ []) (drop (i + 1) entries) ≡ appended dates (drop i entries)
+  put-behind w l = rw (w, l) at turn

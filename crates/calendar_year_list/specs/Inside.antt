@@ -1,18 +1,13 @@
--- How the functions gather a year's holidays: from the year's end to its beginning. No definitions of document 02.
-use Rattle.std.specs.Prelude.{◌≡◌, Bool, true, cond, List, [], ◌∷◌, ℕ, suc, ◌/◌, ◌%◌, ◌≤◌, eqb, length, get_or, drop}
+-- The days of a year in the calendar's order, and those of them that are wanted. No definitions of document 02.
+use Rattle.std.specs.Prelude.{true, cond, List, [], ◌∷◌, ℕ, ◌/◌, ◌%◌, ◌≤◌, eqb}
+use Rattle.lists.specs.Lists.{Each}
 use Rattle.calendar_dates.specs.declared.Date.{Date}
 use Rattle.calendar_dates.specs.Dates.{number_of}
 use Rattle.calendar_movable_days.specs.Counted.{on}
 use Rattle.calendar_movable_days.specs.Easter.{easter_sunday}
 use Rattle.calendar_movable_days.specs.Repentance.{repentance}
-use Rattle.calendar_movable_days.specs.Inside.{InSpan}
 use Rattle.calendar_public_holidays.specs.Days.{good_friday, easter_monday, ascension, whit_sunday, whit_monday, corpus_christi}
-use Rattle.calendar_public_holidays.specs.YearHolidays.{inserted, year_holidays}
-
--- a day, and whether it is to be listed
-pub record Entry : Type 0 where
-  pub date : ℕ
-  pub wanted : Bool
+use Rattle.calendar_year_list.specs.declared.Entry.{Entry}
 
 abbrev pub federal : Date → Entry
 federal d = record { date = number_of d; wanted = true }
@@ -43,51 +38,12 @@ calendar_days year choice =
     ∷ federal (on year 12 26)
     ∷ []
 
--- the k-th of them; for k = 17 a number later than every date
-abbrev pub day_at : ℕ → ℕ → ℕ → Entry
-day_at year choice k = get_or (calendar_days year choice) k (record { date = 99_999_999; wanted = true })
+-- no day comes before an earlier one
+abbrev pub NotFalling : List Entry → Type 0
+NotFalling [] = Unit {0}
+NotFalling (e ∷ entries) = Each (λ later. e.date ≤ later.date) entries × NotFalling entries
 
--- those that are wanted, each put in front of those behind it
-unfoldable pub gathered : List Entry → List ℕ
-gathered [] = []
-gathered (e ∷ entries) = cond e.wanted (inserted e.date (gathered entries)) (gathered entries)
-
--- lent memory in which the dates from a place on are gathered
-pub record Gathered : Type 0 where
-  pub dates : List ℕ
-  pub from : ℕ
-
-abbrev pub in_memory : List ℕ → ℕ → Gathered
-in_memory dates from = record { dates = dates; from = from }
-
-abbrev pub list_of : Gathered → List ℕ
-list_of g = drop g.from g.dates
-
--- a list in rising order has no date before this one
-abbrev pub NotBefore : ℕ → List ℕ → Type 0
-NotBefore date [] = Unit {0}
-NotBefore date (first ∷ dates) = date ≤ first
-
--- there is room for so many dates more, and this one may come in front
-pub record Ready (days date : ℕ) (g : Gathered) : Type 0 where
-  pub whole : length g.dates ≡ 17
-  pub room : days ≤ g.from
-  pub inside : g.from ≤ 17
-  pub not_before : NotBefore date (list_of g)
-
--- one day more in front, where it is wanted and not there already
-pub record Added (g : Gathered) (date : ℕ) (wanted : Bool) (r : Gathered) : Type 0 where
-  pub list : list_of r ≡ cond wanted (inserted date (list_of g)) (list_of g)
-  pub ready : (days : ℕ) → Ready (suc days) date g → Ready days date r
-
--- the days from the k-th on are gathered, and there is room for the k before it
-pub record Gathers (year choice k : ℕ) (g : Gathered) : Type 0 where
-  pub span : InSpan year
-  pub list : list_of g ≡ gathered (drop k (calendar_days year choice))
-  pub ready : Ready k (day_at year choice k).date g
-
--- the year's holiday list, in the last entries
-pub record Lists (year choice : ℕ) (g : Gathered) : Type 0 where
-  pub list : list_of g ≡ year_holidays year choice
-  pub whole : length g.dates ≡ 17
-  pub inside : g.from ≤ 17
+-- the dates that are wanted
+abbrev pub wanted : List Entry → List ℕ
+wanted [] = []
+wanted (e ∷ entries) = cond e.wanted (e.date ∷ wanted entries) (wanted entries)

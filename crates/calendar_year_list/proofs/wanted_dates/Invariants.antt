@@ -1,0 +1,13 @@
+-- What each turn of the loop keeps: with the days left behind them, the dates so far come to the whole; and there is room for each day left.
+use mathlib.Core.Path.{◌≡◌}
+use mathlib.Core.List.{[]}
+use Prim.Native.Nat.{◌≤◌}
+use lib.ListN.{length, drop}
+use Rattle.calendar_year_list.proofs.Gathering.{appended}
+use Rattle.calendar_year_list.proofs.wanted_dates.Given as goal
+
+abbrev pub invariant-loop-day : goal.invariant-loop-day
+invariant-loop-day l = record {
+  whole : appended l.dates.items (drop l.day-index l.days) ≡ appended [] l.days;
+  room : length l.dates.items ≤ l.day-index;
+}
