@@ -1,2 +1,3 @@
-pub mod PageLines
 pub mod Inside
+pub mod Lengths
+pub mod PageLines

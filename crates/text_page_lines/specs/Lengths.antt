@@ -1,7 +1,7 @@
--- A line has its length. Assumes nothing.
+-- A line has its length. These are lemmas that the law of the form cites, and so they stand here.
 use mathlib.Core.Path.{◌≡◌}
 use mathlib.Core.List.{List}
-use Prim.Native.Nat.{ℕ, ◌+◌, ◌^◌, ◌<◌}
+use Prim.Native.Nat.{ℕ, ◌+◌, ◌^◌, ◌≤◌, ◌<◌}
 use native.Mathlib.Omega.{arith}
 use lib.ListN.{length, replicate, length-append}
 use Rattle.calendar_days.specs.declared.DayKind.{DayKind}
@@ -34,3 +34,7 @@ day-line-length kind row few small =
 
 pub last-line-length : (t : Totals) → t.count < 10 ^ 6 → t.total < 10 ^ 16 → length (last_page_line t) ≡ line_length day_type_width
 last-line-length t few small = line-length t.count t.total few small (left_aligned date_width total_word) (replicate day_type_width hyphen)
+
+-- of a day with at most 999 values too
+pub within-line : (kind : DayKind) (row : Row) → row.count < 1_000 → row.watt_hours < 10 ^ 16 → length (day_page_line kind row) ≤ line_length day_type_width
+within-line kind row few small = omega (arith, day-line-length kind row (omega arith) small)
