@@ -1,11 +1,8 @@
 -- Document 01: "A day enquiry takes a date and a list and gives weekday (1 Monday to 7 Sunday), t, season, day type (1 weekday,
 -- 2 Saturday, 3 Sunday) and value count."
-use Rattle.refusal.specs.Questions.{answered}
-use Rattle.std.specs.Prelude.{Result, Ok, Err}
-use Rattle.std.specs.Prelude.{List, ℕ}
+use Rattle.std.specs.Prelude.{List, ℕ, Result, Ok, Err}
 use Rattle.refusal.specs.declared.Refusal.{Refusal}
-use Rattle.refusal.specs.Questions.{Verdict}
-use Rattle.refusal.specs.Questions.{refusal_number, refusal_place, ◌then◌}
+use Rattle.refusal.specs.Questions.{Verdict, refusal_number, refusal_place, ◌then◌, answered}
 use Rattle.calendar_dates.specs.declared.Date.{Date}
 use Rattle.calendar_dates.specs.Dates.{date_of, day_of_year, weekday_of}
 use Rattle.calendar_holidays.specs.Holidays.{holidays_question}

@@ -1,12 +1,9 @@
 -- Document 02, (a): what the call for a year's holidays answers, and what it leaves in the lent list, accepted and refused.
+use Rattle.std.specs.Prelude.{◌&&◌, List, ℕ, leb, length, Result, Ok, Err}
 use Rattle.refusal.specs.declared.Refusal.{Refusal}
-use Rattle.refusal.specs.Questions.{answered}
-use Rattle.std.specs.Prelude.{Result, Ok, Err}
-use Rattle.std.specs.Prelude.{◌&&◌, List, ℕ, leb, length}
 use Rattle.refusal.specs.declared.Refusal.TheVariants.{BadYear, BadChoice, ShortList}
-use Rattle.refusal.specs.Questions.{Verdict}
-use Rattle.refusal.specs.Questions.{Pass}
-use Rattle.refusal.specs.Questions.{refusal_number, refusal_place, ask, ◌then◌, lent_after}
+use Rattle.refusal.specs.Questions.{Verdict, refusal_number, refusal_place, answered}
+use Rattle.refusal.specs.Questions.{ask, ◌then◌, lent_after}
 use Rattle.calendar_public_holidays.specs.YearHolidays.{year_holidays}
 use Rattle.call_holidays.specs.declared.HolidaysReport.{HolidaysReport}
 

@@ -1,2 +1,1 @@
 pub mod Holidays
-pub mod Inside

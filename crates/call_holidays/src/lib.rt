@@ -1,43 +1,53 @@
 // The holidays of a year (document 02, (a)): questions 14, 15 and 16, and the dates at the start of the lent list.
 #![tactic(auto)]
 
-ghost use Rattle.std.specs.Prelude.{◌≡◌, ◌++◌, ◌≤◌, length, drop};
+ghost use Rattle.std.specs.Prelude.{◌≡◌, length};
+ghost use Rattle.refusal.specs.Questions.{answered};
 ghost use Rattle.call_holidays.specs.Holidays.{year_question, choice_question, list_question, holidays_answer, list_after, reported};
-ghost use Rattle.call_holidays.specs.Inside.{Gives};
 
-use calendar_year_list::MOST_DAYS;
+use calendar_movable_days::Year;
 use refusal::Refusal;
-
-// How many dates were put at the start of the lent list, or the first question that did not pass.
-#[derive(Clone, Copy)]
-pub enum HolidaysAnswer {
-    Listed(usize),
-    Refused(Refusal),
-}
 
 // The answer in numbers: number and place, 0 when accepted, and the list's length, 0 when refused.
 #[repr(C)]
-#[derive(Clone, Copy)]
+#[derive(Clone, Copy, Default)]
 pub struct HolidaysReport {
     pub number: u32,
     pub place: usize,
     pub length: usize,
 }
 
-// Question 14.
-fn year_question(year: u32) -> Result<(), Refusal>
-    ensures { result ≡ year_question year }
+impl From<Result<usize, Refusal>> for HolidaysReport {
+    ghost from_gives = { λ answer report. report ≡ reported answer };
+
+    fn from(answer: Result<usize, Refusal>) -> HolidaysReport {
+        match answer {
+            Ok(length) => HolidaysReport {
+                length,
+                ..HolidaysReport::default()
+            },
+            Err(refusal) => HolidaysReport {
+                number: refusal.number(),
+                place: refusal.place(),
+                ..HolidaysReport::default()
+            },
+        }
+    }
+}
+
+// Question 14: the year, or the refusal.
+#[tactic(auto, unfolding(crate::specs::Holidays::year_question))]
+fn year_in(number: u32) -> Result<Year, Refusal>
+    ensures { result ≡ answered (year_question number) number }
 {
-    if year < 1996 {
+    if !matches!(number, 1996..=2099) {
         return Err(Refusal::BadYear);
     }
-    if 2099 < year {
-        return Err(Refusal::BadYear);
-    }
-    Ok(())
+    Ok(Year::new(number))
 }
 
 // Question 15.
+#[tactic(auto, unfolding(crate::specs::Holidays::choice_question))]
 fn choice_question(choice: u8) -> Result<(), Refusal>
     ensures { result ≡ choice_question choice }
 {
@@ -48,6 +58,7 @@ fn choice_question(choice: u8) -> Result<(), Refusal>
 }
 
 // Question 16, of a lent list with `room` entries for the `needed` ones.
+#[tactic(auto, unfolding(crate::specs::Holidays::list_question))]
 fn list_question(needed: usize, room: usize) -> Result<(), Refusal>
     ensures { result ≡ list_question needed room }
 {
@@ -57,60 +68,18 @@ fn list_question(needed: usize, room: usize) -> Result<(), Refusal>
     Ok(())
 }
 
-// Fills the first entries of `list` with the dates and keeps those beyond.
-fn fill(dates: &[u32], list: &mut [u32])
-    requires { length dates.now ≤ length list.old }
-    ensures { list.new ≡ dates.now ++ drop (length dates.now) list.old }
-{
-    let mut at: usize = 0;
-    while at < dates.len() {
-        list[at] = dates[at];
-        at += 1;
-    }
-}
-
-// Gives the dates, where the lent list has room for them.
-fn give(dates: &[u32], list: &mut [u32]) -> Result<usize, Refusal>
-    ensures { Gives dates.now list.old result list.new }
-{
-    list_question(dates.len(), list.len())?;
-    fill(dates, list);
-    Ok(dates.len())
-}
-
-// Fills the first entries of `list` with the holidays of a year and keeps those beyond; a refusal changes nothing.
+// Fills the first entries of `list` with the holidays of a year and keeps those beyond; a refusal changes nothing. Answers how many
+// they are.
+#[tactic(auto, using(crate::proofs::Questions::list_passed), unfolding(crate::specs::Holidays::holidays_answer, crate::specs::Holidays::list_after, crate::specs::Holidays::holidays_check))]
 pub fn list_holidays(year: u32, choice: u8, list: &mut [u32]) -> Result<usize, Refusal>
     ensures value { result ≡ holidays_answer year choice (length list.old) }
-    ensures result_value { reported result ≡ reported (holidays_answer year choice (length list.old)) }
     ensures list_after { list.new ≡ list_after year choice list.old }
 {
-    year_question(year)?;
+    let year = year_in(year)?;
     choice_question(choice)?;
-    let mut dates = [0u32; MOST_DAYS];
-    let from = calendar_year_list::year_holidays(&mut dates, year, choice);
-    give(&dates[from..MOST_DAYS], list)
-}
-
-fn report_refusal(refusal: Refusal) -> HolidaysReport
-    ensures { result ≡ reported (Err refusal) }
-{
-    HolidaysReport {
-        number: refusal.number(),
-        place: refusal.place(),
-        length: 0,
-    }
-}
-
-// The answer in numbers.
-pub fn report(answer: Result<usize, Refusal>) -> HolidaysReport
-    ensures { result ≡ reported answer }
-{
-    match answer {
-        Ok(length) => HolidaysReport {
-            number: 0,
-            place: 0,
-            length,
-        },
-        Err(refusal) => report_refusal(refusal),
-    }
+    let dates = calendar_year_list::year_holidays(year, choice);
+    let needed = dates.len();
+    list_question(needed, list.len())?;
+    list[..needed].copy_from_slice(&dates);
+    Ok(needed)
 }
