@@ -34,9 +34,9 @@ unfolding layout_of
 profile_behind_header file at h = omega arith
 
 -- and as many value bytes as its layout says
-pub length-value_bytes : (file : List ℕ) (at : ℕ) → at + profile_length (layout_of file) ≤ length file →
+pub value_bytes_long : (file : List ℕ) (at : ℕ) → at + profile_length (layout_of file) ≤ length file →
     length (value_bytes file at) ≡ (layout_of file).entries * 2
-length-value_bytes file at h = simp (length-take, length-drop) (omega arith)
+value_bytes_long file at h = simp (length-take, length-drop) (omega arith)
 
 -- question 1 passed
 pub record Marked (file : List ℕ) : Type 0 where

@@ -1,21 +1,17 @@
--- `file_read::fill` meets its contract. The loop's invariant: storing the values that are left gives what storing all of them would
--- give. The measure is how many are left.
-use mathlib.Core.Path.{refl, ◌∙◌}
-use native.Mathlib.Omega.{arith}
-use Rattle.lists.proofs.Strides.{places-next, places-end, stored-places}
-use Rattle.lists.proofs.Stores.{one-stored, all-stored}
+-- `file_read::fill` meets its contract: entry by entry the table is the part's values.
+use Rattle.std.proofs.Common.{◌∙◌, sym, ◌*◌, ◌/◌, length, arith}
+use Rattle.std.proofs.lemmas.Grind.{same_number_lists}
+use native.Mathlib.Nat.{zero-add}
+use Rattle.lists.proofs.Strides.{length-places, get_or-places}
 use Rattle.big_endian.specs.BigEndian.{word_at}
+use Rattle.big_endian.specs.Inside.{words_of}
 use Rattle.file_read.proofs.fill.Goals as goal
-
-pub loop-left-preserved : goal.loop-left-preserved
-loop-left-preserved c =
-    let l = c.loop-left in
-    let part = c.args.part.now in
-    let next = places-next (word_at part) 2 l.left l.at (omega arith) in
-    (rw c.word_at.ensures.0 (one-stored l.invariant.0 next refl), omega arith, omega arith)
 
 pub returns : goal.returns
 returns c =
-    let l = c.loop-left in
-    all-stored l.invariant.0 (places-end _ 2 l.left l.at (omega arith))
-    ∙ stored-places _ 2 _ _ _ c.requires
+    let part = c.args.part.now in
+    let l = c.loop-i in
+    same_number_lists l.table (words_of part) (omega (arith, length-places (word_at part) 2 (length part / 2) 0))
+    (λ k h.
+    let value = get_or-places (word_at part) 2 (length part / 2) 0 k 0 (omega arith) in
+    l.invariant k (omega arith) ∙ sym (rw (zero-add (k * 2)) at value))

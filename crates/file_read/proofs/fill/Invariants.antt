@@ -1,15 +1,7 @@
--- What each turn of the loop keeps, and what falls.
-use mathlib.Core.Path.{◌≡◌}
-use Prim.Native.Nat.{◌+◌, ◌*◌, ◌≤◌}
-use lib.ListN.{length}
-use Rattle.lists.proofs.Stores.{Storing}
-use Rattle.big_endian.specs.BigEndian.{words_from}
+-- What each turn of the loop keeps: the entries before this one are filled.
+use Rattle.std.proofs.Common.{◌≡◌, ℕ, ◌*◌, ◌<◌, get_or}
+use Rattle.big_endian.specs.BigEndian.{word_at}
 use Rattle.file_read.proofs.fill.Given as goal
 
-abbrev pub invariant-loop-left : goal.invariant-loop-left
-invariant-loop-left l = Storing l.initial.table l.initial.entry (words_from l.part l.initial.left l.initial.at) l.table l.entry (words_from l.part l.left l.at)
-    × (l.at + l.left * 2 ≤ length l.part)
-    × (l.entry + l.left ≡ l.initial.left)
-
-abbrev pub decreases-loop-left : goal.decreases-loop-left
-decreases-loop-left l = l.left
+abbrev pub invariant-loop-i : goal.invariant-loop-i
+invariant-loop-i l = (k : ℕ) → k < l.i → get_or l.table k 0 ≡ word_at l.part (k * 2)

@@ -3,7 +3,7 @@ use Rattle.std.proofs.Common.{arith, rules, sym, ◌+◌, ◌/◌, length, ◌�
 use Rattle.refusal.proofs.Questions.{asked-refuses, asked_more, asked_all}
 use Rattle.file_layout.specs.Header.{layout_of}
 use Rattle.file_layout.specs.Inside.{value_bytes}
-use Rattle.file_layout.proofs.Header.{length-value_bytes}
+use Rattle.file_layout.proofs.Header.{value_bytes_long}
 use Rattle.file_values.specs.Values.{value_question, profile_values_question}
 use Rattle.file_values.proofs.Values.{upper-pass}
 use Rattle.file_values.proofs.profile_values_question.Goals as goal
@@ -12,7 +12,7 @@ pub returns-then-upper_bytes-le-SAFE_UPPER_BYTE : goal.returns-then-upper_bytes-
 unfolding profile_values_question
 returns-then-upper_bytes-le-SAFE_UPPER_BYTE c =
     let file = c.args.file.bytes.now in
-    let count : length (value_bytes file c.args.at) / 2 ≡ (layout_of file).entries = omega (arith, length-value_bytes file c.args.at c.requires) in
+    let count : length (value_bytes file c.args.at) / 2 ≡ (layout_of file).entries = omega (arith, value_bytes_long file c.args.at c.requires) in
     let upper = rw (c.value_bytes-values.ensures.bytes, count) at c.upper_bytes.ensures in
     sym (upper-pass file (c.args.at + (layout_of file).before) (layout_of file).entries c.upper_bytes.result upper (omega arith))
 
