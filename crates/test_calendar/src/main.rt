@@ -5,8 +5,9 @@
 
 mod second;
 
-ghost use Rattle.std.specs.Prelude.{◌≤◌, IfOk};
+ghost use Rattle.std.specs.Prelude.{◌≤◌};
 
+use call_day::DayReport;
 use second::{Figures, Listed};
 use std::io;
 
@@ -22,106 +23,50 @@ fn main(rt: HostRuntime) -> io::Result<()> {
 // Writes how many days agree, of how many, and leaves the rest of the line to its caller. The weekday is counted on from 1 January
 // 1996, a Monday.
 fn compare_span(rt: &HostRuntime, listed: Listed) -> io::Result<()> {
-    let mut year: u32 = 1996;
-    let mut t: u32 = 1;
-    let mut weekday: u32 = 1;
+    let mut weekday = 1;
     let mut days: u32 = 0;
     let mut agree: u32 = 0;
-    while year < 2100 {
-        agree += compare(rt, year, t, weekday, listed)?;
-        days += 1;
-        weekday = weekday % 7 + 1;
-        t += 1;
-        if 365 + second::leap_days(year) < t {
-            year += 1;
-            t = 1;
+    for year in 1996..2100 {
+        for t in 1..=365 + second::leap_days(year) {
+            if agrees(rt, year, t, weekday, listed)? {
+                agree += 1;
+            }
+            days += 1;
+            weekday = weekday % 7 + 1;
         }
     }
-    write_number(rt, agree)?;
-    print!(rt; " of ")?;
-    write_number(rt, days)
+    print!(rt; "{agree} of {days}")
 }
 
-// 1 where the day's figures agree. Else 0, after a line with the date, the enquiry's figures and the second calendar's.
-fn compare(rt: &HostRuntime, year: u32, t: u32, weekday: u32, listed: Listed) -> io::Result<u32>
+// Whether the day's figures agree; where they do not, a line has the date, the enquiry's figures and the second calendar's.
+fn agrees(rt: &HostRuntime, year: u32, t: u32, weekday: u32, listed: Listed) -> io::Result<bool>
     requires { (year ≤ 2099) × ((1 ≤ t) × (t ≤ 366)) }
-    ensures { IfOk result (λ n. n ≤ 1) }
 {
     let date = second::date_of(year, t);
     let answered = enquired(date, year, listed);
     let expected = second::figures_of(year, t, weekday, listed);
-    if same(answered, expected) {
-        return Ok(1);
+    if answered != expected {
+        println!(rt; "{date}{answered}, not{expected}")?;
     }
-    write_number(rt, date)?;
-    write_figures(rt, answered)?;
-    print!(rt; ", not")?;
-    write_figures(rt, expected)?;
-    println!(rt; "")?;
-    Ok(0)
+    Ok(answered == expected)
 }
 
 // What `call_day` answers with the list.
 fn enquired(date: u32, year: u32, listed: Listed) -> Figures
     requires { year ≤ 2099 }
 {
+    // the year as yyyy0000, so that month and day are added to it
+    let start = year * 10_000;
     match listed {
         Listed::Nothing => with_list(date, &[]),
         Listed::Day => with_list(date, &[date]),
-        Listed::YearEnd => with_year_end(date, year * 10_000),
+        Listed::YearEnd => with_list(
+            date,
+            &[start + 1224, start + 1225, start + 1226, start + 1231],
+        ),
     }
-}
-
-// `start` is the year as yyyy0000, so that month and day are added to it.
-fn with_year_end(date: u32, start: u32) -> Figures
-    requires { start ≤ 20_990_000 }
-{
-    with_list(
-        date,
-        &[start + 1224, start + 1225, start + 1226, start + 1231],
-    )
 }
 
 fn with_list(date: u32, holidays: &[u32]) -> Figures {
-    let r = call_day::report(call_day::enquire(date, holidays));
-    Figures {
-        number: r.number,
-        place: r.place,
-        weekday: r.weekday,
-        t: r.t,
-        season: r.season,
-        day_type: r.day_type,
-        values: r.value_count,
-    }
-}
-
-fn same(a: Figures, b: Figures) -> bool {
-    a.number == b.number
-        && a.place == b.place
-        && a.weekday == b.weekday
-        && a.t == b.t
-        && a.season == b.season
-        && a.day_type == b.day_type
-        && a.values == b.values
-}
-
-// Each figure after a space.
-fn write_figures(rt: &HostRuntime, f: Figures) -> io::Result<()> {
-    write_next(rt, f.number)?;
-    print!(rt; " {}", f.place)?;
-    write_next(rt, f.weekday)?;
-    write_next(rt, f.t)?;
-    write_next(rt, f.season)?;
-    write_next(rt, f.day_type)?;
-    write_next(rt, f.values)
-}
-
-// A space and a number.
-fn write_next(rt: &HostRuntime, n: u32) -> io::Result<()> {
-    print!(rt; " ")?;
-    write_number(rt, n)
-}
-
-fn write_number(rt: &HostRuntime, n: u32) -> io::Result<()> {
-    print!(rt; "{n}")
+    Figures::from(DayReport::from(call_day::enquire(date, holidays)))
 }

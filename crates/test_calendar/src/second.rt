@@ -2,8 +2,11 @@
 // t, the day of the year, and its weekday.
 ghost use Rattle.std.specs.Prelude.{◌≤◌};
 
+use call_day::DayReport;
+use std::fmt;
+
 // A day's figures, in the order of the enquiry's report: number and place are 0 when it is not refused.
-#[derive(Clone, Copy)]
+#[derive(Clone, Copy, PartialEq, Eq)]
 pub struct Figures {
     pub number: u32,
     pub place: usize,
@@ -12,6 +15,32 @@ pub struct Figures {
     pub season: u32,
     pub day_type: u32,
     pub values: u32,
+}
+
+impl From<DayReport> for Figures {
+    fn from(report: DayReport) -> Figures {
+        Figures {
+            number: report.number,
+            place: report.place,
+            weekday: report.weekday,
+            t: report.t,
+            season: report.season,
+            day_type: report.day_type,
+            values: report.value_count,
+        }
+    }
+}
+
+// Each figure after a space.
+impl fmt::Display for Figures {
+    fn fmt<W: fmt::Write>(&self, f: &mut fmt::Formatter<W>) -> fmt::Result {
+        write!(
+            f,
+            " {} {} {} {}",
+            self.number, self.place, self.weekday, self.t
+        )?;
+        write!(f, " {} {} {}", self.season, self.day_type, self.values)
+    }
 }
 
 // The list of holidays that a day is asked about with.
@@ -41,10 +70,7 @@ pub fn figures_of(year: u32, t: u32, weekday: u32, listed: Listed) -> Figures {
 pub fn leap_days(year: u32) -> u32
     ensures { result ≤ 1 }
 {
-    if year % 4 == 0 {
-        return 1;
-    }
-    0
+    u32::from(year % 4 == 0)
 }
 
 // The date as a number yyyymmdd. From March on each five months have 153 days: a date n days after 1 March lies m months
@@ -53,34 +79,29 @@ pub fn date_of(year: u32, t: u32) -> u32
     requires { (year ≤ 2099) × ((1 ≤ t) × (t ≤ 366)) }
 {
     let leap = leap_days(year);
-    if t <= 31 {
-        return year * 10_000 + 100 + t;
-    }
-    if t <= 59 + leap {
-        return year * 10_000 + 200 + (t - 31);
-    }
-    let n = t - 60 - leap;
-    let m = (5 * n + 2) / 153;
-    year * 10_000 + (m + 3) * 100 + (n - (153 * m + 2) / 5 + 1)
+    let month_and_day = if t <= 31 {
+        100 + t
+    } else if t <= 59 + leap {
+        200 + (t - 31)
+    } else {
+        let n = t - 60 - leap;
+        let m = (5 * n + 2) / 153;
+        (m + 3) * 100 + (n - (153 * m + 2) / 5 + 1)
+    };
+    year * 10_000 + month_and_day
 }
 
 // 1 winter, 2 summer, 3 transition. In a common year 21 March is day 80, 15 May 135, 14 September 257, 1 November 305.
 fn season(t: u32, leap: u32) -> u32
     requires { leap ≤ 1 }
 {
-    if t < 80 + leap {
-        return 1;
+    if t < 80 + leap || 305 + leap <= t {
+        1
+    } else if 135 + leap <= t && t <= 257 + leap {
+        2
+    } else {
+        3
     }
-    if t < 135 + leap {
-        return 3;
-    }
-    if t <= 257 + leap {
-        return 2;
-    }
-    if t < 305 + leap {
-        return 3;
-    }
-    1
 }
 
 // Whether the list has the day. 24 December is the year's eighth day from the end, day 358 of a common year.
@@ -90,7 +111,7 @@ fn is_listed(t: u32, leap: u32, listed: Listed) -> bool
     match listed {
         Listed::Nothing => false,
         Listed::Day => true,
-        Listed::YearEnd => is_within(t, 358 + leap, 360 + leap) || t == 365 + leap,
+        Listed::YearEnd => (358 + leap..=360 + leap).contains(&t) || t == 365 + leap,
     }
 }
 
@@ -98,22 +119,13 @@ fn is_listed(t: u32, leap: u32, listed: Listed) -> bool
 fn day_type(t: u32, leap: u32, weekday: u32, is_listed: bool) -> u32
     requires { leap ≤ 1 }
 {
-    if is_listed {
-        return 3;
+    if is_listed || weekday == 7 {
+        3
+    } else if weekday == 6 || t == 358 + leap || t == 365 + leap {
+        2
+    } else {
+        1
     }
-    if weekday == 7 {
-        return 3;
-    }
-    if weekday == 6 {
-        return 2;
-    }
-    if t == 358 + leap {
-        return 2;
-    }
-    if t == 365 + leap {
-        return 2;
-    }
-    1
 }
 
 // The clocks change on the Sunday among the last seven days of March, days 84 to 90 of a common year, and of October,
@@ -121,21 +133,11 @@ fn day_type(t: u32, leap: u32, weekday: u32, is_listed: bool) -> u32
 fn values(t: u32, leap: u32, weekday: u32) -> u32
     requires { leap ≤ 1 }
 {
-    if weekday != 7 {
-        return 96;
+    if weekday == 7 && (84 + leap..=90 + leap).contains(&t) {
+        92
+    } else if weekday == 7 && (298 + leap..=304 + leap).contains(&t) {
+        100
+    } else {
+        96
     }
-    if is_within(t, 84 + leap, 90 + leap) {
-        return 92;
-    }
-    if is_within(t, 298 + leap, 304 + leap) {
-        return 100;
-    }
-    96
-}
-
-fn is_within(t: u32, first: u32, last: u32) -> bool {
-    if t < first {
-        return false;
-    }
-    t <= last
 }
