@@ -24,7 +24,7 @@ use Rattle.call_rows.proofs.Rows.{totals-by-quarters}
 use Rattle.text.specs.Inside.{Put}
 use Rattle.text.proofs.Puts.{put-put}
 use Rattle.text_page_lines.specs.PageLines.{day_page_line, last_page_line}
-use Rattle.text_page_lines.specs.Lengths.{last-line-length}
+use Rattle.text_page_lines.proofs.PageLines.{last-line-length}
 use Rattle.text_listing.specs.declared.Form.TheVariants.{Page}
 use Rattle.text_listing.specs.declared.Lines.{Lines}
 use Rattle.text_listing.specs.Listing.{line_after_line}

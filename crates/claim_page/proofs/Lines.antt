@@ -14,7 +14,7 @@ use Rattle.text.specs.Text.{space, line_feed}
 use Rattle.text_columns.specs.Columns.{right_aligned}
 use Rattle.text_columns.proofs.Columns.{length-right}
 use Rattle.text_page_lines.specs.PageLines.{page_line, day_page_line}
-use Rattle.text_page_lines.specs.Lengths.{day-line-length}
+use Rattle.text_page_lines.proofs.PageLines.{day-line-length}
 use Rattle.text_listing.specs.Listing.{line_after_line}
 use Rattle.claim_page.specs.ReadBack.{number, line_on, Parted, first_on, day_type_on, count_on, watt_hours_on}
 use Rattle.claim_page.proofs.ReadBack.{read_right}

@@ -34,7 +34,7 @@ use Rattle.text.proofs.Text.{decimal-short}
 use Rattle.text_fields.specs.Fields.{day_type_text, total_word}
 use Rattle.text_columns.specs.Columns.{left_aligned}
 use Rattle.text_page_lines.specs.PageLines.{last_page_line}
-use Rattle.text_page_lines.specs.Lengths.{last-line-length}
+use Rattle.text_page_lines.proofs.PageLines.{last-line-length}
 use Rattle.call_page.specs.Page.{page_text, page_check, page_answer, page_after, Reports}
 use Rattle.call_page.proofs.Page.{page-enough, page-short}
 use Rattle.claim_page.specs.ReadBack.{Read, number, none, read_date, line_on, Parted, date_on, count_on, watt_hours_on, added}

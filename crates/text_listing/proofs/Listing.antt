@@ -16,7 +16,7 @@ use Rattle.day_powers.proofs.DayQuarters.{length-day-quarters}
 use Rattle.series_rows.specs.Rows.{Row, row_of, day_figures, day_row, rows}
 use Rattle.text.proofs.Text.{decimal-short, decimal-most}
 use Rattle.text_program_lines.specs.Lines.{day_line, last_line}
-use Rattle.text_page_lines.specs.Lengths.{day-line-length}
+use Rattle.text_page_lines.proofs.PageLines.{day-line-length}
 use Rattle.text_listing.specs.declared.Form.{Form}
 use Rattle.text_listing.specs.Listing.{line_after_line}
 use Rattle.text_listing.specs.Inside.{line_in, longest_line}

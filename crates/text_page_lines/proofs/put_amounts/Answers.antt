@@ -1,7 +1,7 @@
 -- `text_page_lines::put_amounts` meets its contract: the parts, put one behind the other, are the end of the line.
 use Rattle.std.proofs.Common.{arith}
 use Rattle.text.proofs.Puts.{behind}
-use Rattle.text_page_lines.specs.Lengths.{amounts-length}
+use Rattle.text_page_lines.proofs.PageLines.{amounts-length}
 use Rattle.text_page_lines.proofs.put_amounts.Goals as goal
 
 pub returns-clause-put : goal.returns-clause-put

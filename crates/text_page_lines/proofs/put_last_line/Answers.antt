@@ -2,7 +2,7 @@
 use Rattle.std.proofs.Common.{arith}
 use Rattle.text.proofs.Puts.{behind}
 use Rattle.text_page_lines.specs.PageLines.{page_line}
-use Rattle.text_page_lines.specs.Lengths.{last-line-length}
+use Rattle.text_page_lines.proofs.PageLines.{last-line-length}
 use Rattle.text_page_lines.proofs.put_last_line.Goals as goal
 
 pub returns : goal.returns

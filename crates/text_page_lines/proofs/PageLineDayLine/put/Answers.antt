@@ -3,7 +3,7 @@ use Rattle.std.proofs.Common.{arith}
 use Rattle.text.proofs.Puts.{behind}
 use Rattle.text_fields.specs.Entry.{row_in}
 use Rattle.text_page_lines.specs.PageLines.{page_line}
-use Rattle.text_page_lines.specs.Lengths.{day-line-length}
+use Rattle.text_page_lines.proofs.PageLines.{day-line-length}
 use Rattle.text_page_lines.proofs.PageLineDayLine.put.Goals as goal
 
 pub returns-clause-put : goal.returns-clause-put
