@@ -4,11 +4,9 @@
 ghost use Rattle.std.specs.Prelude.{◌≡◌};
 ghost use Rattle.file_locate.specs.Locating.{Located, located_part};
 
-use file_group::Found;
-
 // A part of a file by its place: what stands for `locate`'s answer where no slice can be handed back.
 #[repr(C)]
-#[derive(Clone, Copy)]
+#[derive(Clone, Copy, Default)]
 pub struct LocatedPart {
     pub offset: usize,
     pub length: usize,
@@ -18,23 +16,18 @@ pub struct LocatedPart {
 pub fn locate(file: &[u8], group: u8) -> &[u8]
     ensures { Located file.entry group result }
 {
-    let nothing = &file[0..0];
-    let Ok(at) = file_group::find_checked(file, group) else {
-        return nothing;
-    };
-    file_group::value_bytes(file, at)
+    match file_group::find_checked(file, group) {
+        Ok(at) => file_layout::value_bytes(file, at),
+        Err(_) => &file[..0],
+    }
 }
 
 // Where the group's own value bytes begin, and how many they are; both 0 on a refusal.
 pub fn located_part(file: &[u8], group: u8) -> LocatedPart
     ensures { result ≡ located_part file.now group }
 {
-    let nothing = LocatedPart {
-        offset: 0,
-        length: 0,
-    };
     let Ok(at) = file_group::find_checked(file, group) else {
-        return nothing;
+        return LocatedPart::default();
     };
     let layout = file_layout::layout_of(file);
     LocatedPart {
