@@ -87,6 +87,7 @@ impl Period {
     pub fn dates(self) -> Days
         ensures same { result ≡ dates_from self.days self.first }
         ensures few { self.days ≤ 1_461 }
+        ensures real { AllDates self.days self.first }
     {
         Days::new(self.first, self.days)
     }

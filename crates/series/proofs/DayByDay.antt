@@ -1,205 +1,182 @@
--- A period's days, one after the other: what is stored, put together with the figures of the powers left, is the whole. Laws for
--- the loop's start, turn and end. And the whole's total fits: no power is above 40,000, and no day has more than 100.
+-- A period's days, one after the other: what the days so far come to, put together with the powers of the days left, is the whole. Laws
+-- for a loop's start, turn and end. And the whole's total fits: no power is above 40,000, and no day has more than 100.
 -- Assumes nothing.
 use mathlib.Core.Path.{◌≡◌, refl, sym, ◌∙◌, ap}
 use mathlib.Core.Bool.{true}
-use mathlib.Core.List.{List, [], ◌∷◌, ◌++◌, map-append}
+use mathlib.Core.List.{List, [], ◌∷◌, ◌++◌, map, map-append, append_assoc, append-nil}
 use Prim.Native.Nat.{ℕ, zero, suc, ◌+◌, ◌-◌, ◌*◌, ◌^◌, ◌≤◌, ◌<◌}
 use native.Mathlib.Nat.{zero-add, mul-le-mul}
 use native.Mathlib.Omega.{arith}
 use lib.ListN.{length, get_or, length-append, length-map}
-use lib.Seq.{sets, sets-eq, length-sets}
 use Rattle.lists.specs.Lists.{sum, Each}
-use Rattle.lists.proofs.Stores.{sets-append}
 use Rattle.lists.proofs.Sums.{sum-append}
 use Rattle.lists.proofs.Members.{each_append}
 use Rattle.calendar_dates.specs.declared.Date.{Date}
 use Rattle.calendar_dates.specs.Dates.{is_date, next_day, AllDates}
 use Rattle.calendar_dates.proofs.Later.{all_first, all-next}
-use Rattle.calendar_days.specs.Days.{clock}
-use Rattle.calendar_period.specs.declared.CalendarDay.{CalendarDay}
-use Rattle.calendar_period.specs.Inside.{calendar_day, RealDay, RealDays}
-use Rattle.calendar_period.proofs.Period.{values-small}
+use Rattle.calendar_days.specs.declared.DayKind.{DayKind}
+use Rattle.calendar_days.specs.Days.{clock, day_kind}
+use Rattle.calendar_period.specs.Period.{dates_from}
+use Rattle.calendar_period.proofs.Periods.{values-small}
 use Rattle.carry.specs.declared.Totals.{Totals}
+use Rattle.carry.specs.Totals.{together}
 use Rattle.carry.specs.Carry.{largest_carry, figures, last_carry}
 use Rattle.carry.specs.Energy.{powers}
 use Rattle.carry.proofs.Carry.{figures-append, carry-append, length-figures, carry-small, telescope}
 use Rattle.day_powers.specs.DayQuarters.{Basis, day_quarters}
 use Rattle.day_powers.proofs.DayQuarters.{each-position, day-powers-positions}
-use Rattle.series.specs.Inside.{GroupValues, InRange, Room, Added, Filled}
+use Rattle.series.specs.Inside.{GroupValues, InRange, comes_to}
 use Rattle.series.specs.Series.{quarters_of_days}
-use Rattle.series.proofs.Series.{quarters-none, quarters-next, length-quarters}
+use Rattle.series.specs.Kinds.{with_kinds}
+use Rattle.series.proofs.Series.{length-quarters}
 use Rattle.series.proofs.OneDay.{powers_before, day_powers, day-powers-small}
-
--- the powers `left` are still to come; the figures of the whole have room, and their total fits
-pub record Left (yearly : ℕ) (whole : List ℕ) (carry : ℕ) (entry : List ℕ) (left : List ℕ) (so_far : Totals) (out : List ℕ) : Type 0 where
-  pub figures_left : sets out so_far.count (figures yearly left so_far.carry) ≡ sets entry 0 (figures yearly whole carry)
-  pub count_left : so_far.count + length left ≡ length whole
-  pub total_left : so_far.total + sum (figures yearly left so_far.carry) ≡ sum (figures yearly whole carry)
-  pub carry_left : last_carry yearly left so_far.carry ≡ last_carry yearly whole carry
-  pub carry_small : so_far.carry ≤ largest_carry
-  pub room : length whole ≤ length entry
-  pub fits : sum (figures yearly whole carry) < 2 ^ 64
-
-pub added-length : {yearly : ℕ} {first : List ℕ} {so_far r : Totals} {out after : List ℕ} → Added yearly first so_far out r after → length after ≡ length out
-added-length {yearly} {first} {so_far} {out = out} did = rw did.stored (length-sets out so_far.count (figures yearly first so_far.carry))
-
--- totals are their three parts
-same-totals : {n t k n' t' k' : ℕ} → n ≡ n' → t ≡ t' → k ≡ k' → ◌≡◌ {A = Totals} (record { count = n; total = t; carry = k }) (record { count = n'; total = t'; carry = k' })
-same-totals n t k = rw (n, t, k)
-
-module _ {yearly : ℕ} {whole : List ℕ} {carry : ℕ} {entry : List ℕ} where
-  pub start : carry ≤ largest_carry → length whole ≤ length entry → sum (figures yearly whole carry) < 2 ^ 64 →
-      Left yearly whole carry entry whole (record { count = 0; total = 0; carry = carry }) entry
-  start h k f = record { figures_left = refl; count_left = omega arith; total_left = omega arith; carry_left = refl; carry_small = h; room = k; fits = f }
-
-  pub kept-length : {left : List ℕ} {so_far : Totals} {out : List ℕ} → Left yearly whole carry entry left so_far out → length out ≡ length entry
-  kept-length l = omega (arith, simp length-sets at (ap length l.figures_left))
-
-  -- what the next powers come to is a part of the whole
-  next-part : (first rest : List ℕ) {so_far : Totals} {out : List ℕ} → Left yearly whole carry entry (first ++ rest) so_far out →
-      so_far.total + sum (figures yearly first so_far.carry) ≤ sum (figures yearly whole carry)
-  next-part first rest {so_far} l =
-      let parts = sum-append (figures yearly first so_far.carry) (figures yearly rest (last_carry yearly first so_far.carry)) in
-      omega (arith, rw (figures-append yearly first rest) at l.total_left)
-
-  -- the next powers have room
-  next-room : (first rest : List ℕ) {so_far : Totals} {out : List ℕ} →
-      Left yearly whole carry entry (first ++ rest) so_far out → Room yearly first so_far out
-  next-room first rest {so_far} l =
-      let kept = kept-length l in
-      record {
-        entries = omega (arith, l.count_left, length-append first rest);
-        total = omega (arith, next-part first rest l, l.fits);
-      }
-
-  -- the next powers, stored and added
-  turn : (first rest : List ℕ) {so_far r : Totals} {out after : List ℕ} →
-      Left yearly whole carry entry (first ++ rest) so_far out → Added yearly first so_far out r after → Left yearly whole carry entry rest r after
-  turn first rest {so_far} {r} {out} l did =
-      let parts = sum-append (figures yearly first so_far.carry) (figures yearly rest (last_carry yearly first so_far.carry)) in
-      let stores = sets-append out (figures yearly first so_far.carry) (figures yearly rest (last_carry yearly first so_far.carry)) so_far.count in
-      record {
-        figures_left = rw (did.stored, did.count, did.carry) ((rw (length-figures yearly first) at (sym stores)) ∙ (rw (figures-append yearly first rest) at l.figures_left));
-        count_left = omega (arith, did.count, l.count_left, length-append first rest);
-        total_left = rw did.carry (omega (arith, did.total, rw (figures-append yearly first rest) at l.total_left));
-        carry_left = rw did.carry (sym (carry-append yearly first rest so_far.carry) ∙ l.carry_left);
-        carry_small = omega (arith, did.carry, carry-small yearly so_far.carry first l.carry_small);
-        room = l.room;
-        fits = l.fits;
-      }
-
-  -- no powers are left
-  done : {r : Totals} {out : List ℕ} → Left yearly whole carry entry [] r out → Filled yearly whole carry entry r out
-  unfolding figures last_carry sum
-  done l =
-      let all = length-figures yearly whole carry in
-      let room = l.room in
-      let stores = sets-eq (figures yearly whole carry) entry 0 (omega arith) in
-      record {
-        stored = l.figures_left ∙ (rw (zero-add, all) at stores);
-        totals = same-totals (omega (arith, l.count_left)) (omega (arith, l.total_left)) l.carry_left;
-      }
-
--- no power above 40,000
-abbrev pub Small : List ℕ → Type 0
-Small xs = Each (λ (p : ℕ). p ≤ 40_000) xs
-
-small-each : (xs : List ℕ) → ((i : ℕ) → get_or xs i 0 ≤ 40_000) → Small xs
-small-each [] h = tt
-small-each (x ∷ xs) h = (h 0, small-each xs (λ i. h (suc i)))
-
-sum-small : (xs : List ℕ) → Small xs → sum xs ≤ 40_000 * length xs
-unfolding sum
-sum-small [] h = omega arith
-sum-small (x ∷ xs) h = omega (arith, h.0, sum-small xs h.1)
 
 -- the powers of some days of a group
 abbrev pub powers_from : Basis → ℕ → Date → List ℕ
 powers_from b n d = powers (quarters_of_days (day_quarters b) n d)
 
-module _ (b : Basis) where
-  pub length-powers : (n : ℕ) (d : Date) → length (powers_from b n d) ≡ length (quarters_of_days (day_quarters b) n d)
-  length-powers n d = length-map (quarters_of_days (day_quarters b) n d) _
+-- the powers of some dates, each with its kind
+abbrev pub powers_on : Basis → List (Date × DayKind) → List ℕ
+powers_on b [] = []
+powers_on b (day ∷ days) = day_powers b day.0 ++ powers_on b days
 
-  powers-none : (n : ℕ) (d : Date) → n ≤ 0 → powers_from b n d ≡ []
-  powers-none n d h = ap powers (quarters-none (day_quarters b) n d h)
+-- each date's kind is its own
+abbrev pub OwnKinds : List ℕ → List (Date × DayKind) → Type 0
+OwnKinds holidays days = Each (λ (day : Date × DayKind). day.1 ≡ day_kind day.0 holidays) days
 
-  powers-next : (n : ℕ) (d : Date) → 0 < n →
-      powers_from b n d ≡ day_powers b d ++ powers_from b (n - 1) (next_day d)
-  powers-next n d h =
-      ap powers (quarters-next (day_quarters b) n d h)
-      ∙ map-append _ (day_quarters b d) (quarters_of_days (day_quarters b) (n - 1) (next_day d))
+own-kinds : (holidays : List ℕ) (dates : List Date) → OwnKinds holidays (with_kinds holidays dates)
+own-kinds holidays [] = tt
+own-kinds holidays (d ∷ dates) = (refl, own-kinds holidays dates)
+
+powers-all : (b : Basis) (n : ℕ) (d : Date) → powers_on b (with_kinds b.holidays (dates_from n d)) ≡ powers_from b n d
+unfolding quarters_of_days
+powers-all b zero d = refl
+powers-all b (suc n) d =
+    ap (λ (rest : List ℕ). day_powers b d ++ rest) (powers-all b n (next_day d))
+    ∙ sym (map-append _ (day_quarters b d) (quarters_of_days (day_quarters b) n (next_day d)))
+
+-- what two runs come to together
+pub comes-together : (yearly carry : ℕ) (first second : List ℕ) →
+    comes_to yearly (first ++ second) carry ≡ together (comes_to yearly first carry) (comes_to yearly second (last_carry yearly first carry))
+comes-together yearly carry first second =
+    rw (length-append first second, figures-append yearly first second carry,
+      sum-append (figures yearly first carry) (figures yearly second (last_carry yearly first carry)), carry-append yearly first second carry)
+
+-- the whole's figures can be counted and added up
+pub record Fits (yearly carry : ℕ) (whole : List ℕ) : Type 0 where
+  pub few : length whole ≤ 146_100
+  pub most : sum (figures yearly whole carry) ≤ 146_100 * 10 ^ 9
+
+-- the days so far have the powers `done`, and come to `totals`; those of `left` are still to come
+pub record SoFar (b : Basis) (yearly carry : ℕ) (whole : List ℕ) (left : List (Date × DayKind)) (totals : Totals) : Type 0 where
+  pub done : List ℕ
+  pub parts : done ++ powers_on b left ≡ whole
+  pub come_to : totals ≡ comes_to yearly done carry
+  pub kinds : OwnKinds b.holidays left
+  pub range : InRange yearly carry
+  pub fits : Fits yearly carry whole
 
 module _ (b : Basis) (sound : GroupValues b.values) where
+  -- no power above 40,000
+  abbrev Small : List ℕ → Type 0
+  Small xs = Each (λ (p : ℕ). p ≤ 40_000) xs
+
+  small-each : (xs : List ℕ) → ((i : ℕ) → get_or xs i 0 ≤ 40_000) → Small xs
+  small-each [] h = tt
+  small-each (x ∷ xs) h = (h 0, small-each xs (λ i. h (suc i)))
+
+  sum-small : (xs : List ℕ) → Small xs → sum xs ≤ 40_000 * length xs
+  unfolding sum
+  sum-small [] h = omega arith
+  sum-small (x ∷ xs) h = omega (arith, h.0, sum-small xs h.1)
+
   day-small : (d : Date) → is_date d ≡ true → Small (day_powers b d)
   day-small d h =
       rw (day-powers-positions b d)
       (each-position _ (clock d) _ (small-each (powers_before b d) (day-powers-small b sound d h)))
 
-  pub all_small : (n : ℕ) (d : Date) → AllDates n d → Small (powers_from b n d)
-  all_small zero d h = rw (powers-none b 0 d (omega arith)) tt
+  all_small : (n : ℕ) (d : Date) → AllDates n d → Small (powers_from b n d)
+  unfolding quarters_of_days
+  all_small zero d h = tt
   all_small (suc n) d h =
       let one : suc n - 1 ≡ n = omega arith in
-      rw (powers-next b (suc n) d (omega arith), one)
+      rw (map-append _ (day_quarters b d) (quarters_of_days (day_quarters b) n (next_day d)))
       (each_append _ (day_powers b d) (powers_from b n (next_day d))
       (day-small d (all_first (suc n) d h (omega arith))) (all_small n (next_day d) (rw one at (all-next (suc n) d h))))
 
   -- the total is at most 10^9 Wh for each of 146,100 quarter hours
-  pub whole-most : {yearly carry : ℕ} {first : CalendarDay} {days : ℕ} → InRange yearly carry → RealDays first days →
-      sum (figures yearly (powers_from b days first.date) carry) ≤ 146_100 * 10 ^ 9
-  whole-most {yearly} {carry} {first} {days} range real =
-      let all = powers_from b days first.date in
-      let few = real.few in
-      let many = length-quarters b days first.date sound.whole in
-      let count : length all ≤ 146_100 = omega (arith, length-powers b days first.date, values-small days first.date) in
-      let limit : sum all ≤ 40_000 * 146_100 = omega (arith, sum-small all (all_small days first.date real.all)) in
-      omega (arith, telescope yearly carry all, mul-le-mul range.yearly_small limit, range.carry_small)
+  pub whole-fits : {yearly carry : ℕ} (n : ℕ) (d : Date) → InRange yearly carry → n ≤ 1_461 → AllDates n d → Fits yearly carry (powers_from b n d)
+  whole-fits {yearly} {carry} n d range few real =
+      let all = powers_from b n d in
+      let count : length all ≤ 146_100 =
+      omega (arith, length-map (quarters_of_days (day_quarters b) n d) (λ q. q.power), length-quarters b n d sound.whole, values-small n d) in
+      let limit : sum all ≤ 40_000 * 146_100 = omega (arith, sum-small all (all_small n d real)) in
+      record { few = count; most = omega (arith, telescope yearly carry all, mul-le-mul range.yearly_small limit, range.carry_small) }
 
-  -- so it fits an i64, and 64 bits
-  pub whole-small : {yearly carry : ℕ} {first : CalendarDay} {days : ℕ} → InRange yearly carry → RealDays first days →
-      sum (figures yearly (powers_from b days first.date) carry) < 2 ^ 63
-  whole-small range real = omega (arith, whole-most range real)
+  -- no day is done yet
+  pub start : {yearly carry : ℕ} (n : ℕ) (d : Date) → InRange yearly carry → n ≤ 1_461 → AllDates n d →
+      SoFar b yearly carry (powers_from b n d) (with_kinds b.holidays (dates_from n d)) (record { count = 0; total = 0; carry = carry })
+  unfolding figures last_carry sum
+  start n d range few real =
+      record {
+        done = [];
+        parts = powers-all b n d;
+        come_to = refl;
+        kinds = own-kinds b.holidays (dates_from n d);
+        range = range;
+        fits = whole-fits n d range few real;
+      }
 
-  pub whole-fits : {yearly carry : ℕ} {first : CalendarDay} {days : ℕ} → InRange yearly carry → RealDays first days →
-      sum (figures yearly (powers_from b days first.date) carry) < 2 ^ 64
-  whole-fits range real = omega (arith, whole-small range real)
+module _ {b : Basis} {yearly carry : ℕ} {whole : List ℕ} {left : List (Date × DayKind)} {totals : Totals}
+    (s : SoFar b yearly carry whole left totals) where
+  -- all days are done
+  pub all-done : left ≡ [] → totals ≡ comes_to yearly whole carry
+  all-done none = s.come_to ∙ ap (λ (all : List ℕ). comes_to yearly all carry) (sym (append-nil s.done) ∙ (rw none at s.parts))
 
--- the loop over the days: those left, from `day` on, are real, and their powers are still to come
-pub record DaysLeft (b : Basis) (yearly : ℕ) (whole : List ℕ) (carry : ℕ) (entry : List ℕ) (day : CalendarDay) (left : ℕ) (so_far : Totals) (out : List ℕ) : Type 0 where
-  pub real : RealDays day left
-  pub todo : Left yearly whole carry entry (powers_from b left day.date) so_far out
+  -- the carry so far is in range
+  pub in-range : InRange yearly totals.carry
+  in-range =
+      record { yearly_small = s.range.yearly_small; carry_small = rw s.come_to (carry-small yearly carry s.done s.range.carry_small) }
 
-module _ {b : Basis} {yearly : ℕ} {whole : List ℕ} {carry : ℕ} {entry : List ℕ} {day : CalendarDay} {left : ℕ} {so_far : Totals} {out : List ℕ}
-    (l : DaysLeft b yearly whole carry entry day left so_far out) where
-  pub all_done : left ≤ 0 → Filled yearly whole carry entry so_far out
-  all_done none = done (rw (powers-none b left day.date none) at l.todo)
+  -- the next day and those behind it
+  module _ {d : Date} {kind : DayKind} {rest : List (Date × DayKind)} (e : left ≡ (d, kind) ∷ rest) where
+    split : s.done ++ (day_powers b d ++ powers_on b rest) ≡ whole
+    split = rw e at s.parts
 
-  module _ (some : 0 < left) where
-    split : Left yearly whole carry entry (day_powers b day.date ++ powers_from b (left - 1) (next_day day.date)) so_far out
-    split = rw (powers-next b left day.date some) at l.todo
+    joined : (s.done ++ day_powers b d) ++ powers_on b rest ≡ whole
+    joined = append_assoc s.done (day_powers b d) (powers_on b rest) ∙ split
 
-    pub this-day : RealDay day
-    this-day = record { real = all_first left day.date l.real.all some; known = l.real.known }
+    pub next-kind : kind ≡ day_kind d b.holidays
+    next-kind = (rw e at s.kinds).0
 
-    pub day-room : Room yearly (day_powers b day.date) so_far out
-    day-room = next-room _ (powers_from b (left - 1) (next_day day.date)) split
+    -- what the next day comes to, and the days so far with it
+    abbrev today : Totals
+    today = comes_to yearly (day_powers b d) totals.carry
 
-    pub day-part : so_far.total + sum (figures yearly (day_powers b day.date) so_far.carry) ≤ sum (figures yearly whole carry)
-    day-part = next-part _ (powers_from b (left - 1) (next_day day.date)) split
+    with_today : together totals today ≡ comes_to yearly (s.done ++ day_powers b d) carry
+    with_today = rw s.come_to (sym (comes-together yearly carry s.done (day_powers b d)))
 
-    pub day-turn : {r : Totals} {after : List ℕ} {next : CalendarDay} → Added yearly (day_powers b day.date) so_far out r after →
-        next ≡ calendar_day (next_day day.date) → DaysLeft b yearly whole carry entry next (left - 1) r after
-    day-turn did e =
-        let few = l.real.few in
-        rw e
-        (record {
-          real = record { known = refl; few = omega arith; all = all-next left day.date l.real.all };
-          todo = turn (day_powers b day.date) _ split did;
-        })
+    pub count-fits : totals.count + length (day_powers b d) ≤ length whole
+    count-fits =
+        let counts = ap (λ (t : Totals). t.count) s.come_to in
+        omega (arith, ap length split, length-append s.done (day_powers b d ++ powers_on b rest), length-append (day_powers b d) (powers_on b rest))
 
-    -- the last day, stored and added
-    pub last-day : {r : Totals} {after : List ℕ} → left ≤ 1 → Added yearly (day_powers b day.date) so_far out r after →
-        Filled yearly whole carry entry r after
-    last-day one did =
-        done (rw (powers-none b (left - 1) (next_day day.date) (omega arith)) at (turn (day_powers b day.date) _ split did))
+    pub total-fits : totals.total + sum (figures yearly (day_powers b d) totals.carry) ≤ 146_100 * 10 ^ 9
+    total-fits =
+        let all = rw (sym joined) at s.fits.most in
+        let parts = comes-together yearly carry (s.done ++ day_powers b d) (powers_on b rest) in
+        let totals_of = ap (λ (t : Totals). t.total) with_today in
+        let sums = ap (λ (t : Totals). t.total) parts in
+        omega arith
+
+    -- a turn
+    pub day-done : {r : Totals} → r ≡ together totals today → SoFar b yearly carry whole rest r
+    day-done h =
+        record {
+          done = s.done ++ day_powers b d;
+          parts = joined;
+          come_to = h ∙ with_today;
+          kinds = (rw e at s.kinds).1;
+          range = s.range;
+          fits = s.fits;
+        }

@@ -1,5 +1,5 @@
 -- The days of a period with their kinds. No definition of document 01.
-use Rattle.std.specs.Prelude.{List, [], ◌∷◌, ◌≤◌, map}
+use Rattle.std.specs.Prelude.{List, [], ◌∷◌, ℕ, ◌≤◌, map}
 use Rattle.calendar_dates.specs.declared.Date.{Date}
 use Rattle.calendar_dates.specs.Dates.{number_of}
 use Rattle.calendar_days.specs.declared.DayKind.{DayKind}

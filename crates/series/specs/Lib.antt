@@ -1,2 +1,3 @@
 pub mod Series
 pub mod Inside
+pub mod Kinds

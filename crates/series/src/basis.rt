@@ -1,7 +1,7 @@
 // What quarter hours are made from: a group's values, its code and the list of holidays.
 ghost use Rattle.std.specs.Prelude.{◌≡◌, ◌≤◌, ℕ, get_or};
 ghost use Rattle.refusal.specs.Questions.{Pass};
-ghost use Rattle.calendar_dates.specs.Dates.{day_of_year};
+ghost use Rattle.calendar_dates.specs.Dates.{day_of_year, AllDates};
 ghost use Rattle.calendar_holidays.specs.Holidays.{holidays_question};
 ghost use Rattle.calendar_period.specs.Period.{dates_from};
 ghost use Rattle.dynamisation.specs.Dynamisation.{F};
@@ -55,14 +55,19 @@ impl<'a> Basis<'a> {
 
     // The days of a period, each with its season and day type.
     pub fn days(&self, period: Period) -> KindDays<'a>
-        ensures { result ≡ with_kinds self.now.holidays (dates_from period.days period.first) }
+        ensures value { result ≡ with_kinds self.now.holidays (dates_from period.days period.first) }
+        ensures group_values { GroupValues self.now.values }
+        ensures few { period.days ≤ 1_461 }
+        ensures real { AllDates period.days period.first }
     {
         KindDays::new(period.dates(), HolidaysAhead::new(self.holidays))
     }
 
     // The powers of a day of a kind, before the clock change.
     pub fn powers(&self, day: CalendarDay, kind: DayKind) -> [u32; 96]
-        ensures { result ≡ powers_by (F self.now.group (day_of_year day)) (day_table_at (day_table_of kind) self.now.values) }
+        ensures value { result ≡ powers_by (F self.now.group (day_of_year day)) (day_table_at (day_table_of kind) self.now.values) }
+        ensures small { (i : ℕ) → get_or result i 0 ≤ 40_000 }
+        ensures group_values { GroupValues self.now.values }
     {
         let table = day_powers::day_table_index(kind.season, kind.day_type);
         day_powers::powers_of(self.values, table, dynamisation::factor(self.group, day.day_of_year()))

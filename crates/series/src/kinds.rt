@@ -34,7 +34,7 @@ impl<'a> Model for KindDays<'a> {
 impl<'a> KindDays<'a> {
     pub(crate) fn new(dates: Days, ahead: HolidaysAhead<'a>) -> KindDays<'a>
         requires { Rising dates }
-        ensures { result ≡ with_kinds ahead dates }
+        ensures { result ≡ with_kinds ahead.entry dates }
     {
         KindDays { dates, ahead }
     }
