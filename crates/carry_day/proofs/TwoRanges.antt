@@ -4,6 +4,7 @@ use Rattle.std.proofs.Math.Seq.{get_or-drop}
 use Rattle.std.proofs.lemmas.List.{take_at, drop_at, drop-drop, take_all, drop_all, append-nil}
 use borrow.Rule.Slice.PartMut.{put_mid}
 use Rattle.lists.proofs.Parts.{take-small}
+use Rattle.lists.proofs.Stores.{stored-behind}
 use Rattle.calendar_days.specs.declared.Clock.{Clock}
 use Rattle.calendar_days.specs.declared.Clock.TheVariants.{Unchanged, Forward, Back}
 use Rattle.calendar_days.specs.Days.{positions, value_count_under}
@@ -37,20 +38,6 @@ second-small : (limit : ℕ) (xs ys : List ℕ) → ((i : ℕ) → get_or (xs ++
 second-small limit [] ys h i = h i
 second-small limit (x ∷ xs) ys h i = second-small limit xs ys (λ j. h (suc j)) i
 
--- a list stored behind another, in the part of memory behind it
-behind : (first second before : List ℕ) (n m : ℕ) {middle part : List ℕ} → length first ≡ n → length second ≡ m → n + m ≤ length before →
-    middle ≡ first ++ drop n before → part ≡ second ++ drop m (take (length middle - n) (drop n middle)) →
-    put_mid n (length middle - n) middle part ≡ (first ++ second) ++ drop (n + m) before
-behind first second before n m {middle} {part} e f room s p =
-    let front : take n middle ≡ first = rw s (take_at first (drop n before) n e) in
-    let rest : drop n middle ≡ drop n before = rw s (drop_at first (drop n before) n e) in
-    let kept : length middle ≡ length before = rw s (omega (arith, length-append first (drop n before), length-drop n before)) in
-    let all : take (length middle - n) (drop n middle) ≡ drop n before =
-    rw rest (take_all (length middle - n) (drop n before) (omega (arith, length-drop n before))) in
-    let none : drop (length middle - n) (drop n middle) ≡ [] =
-    rw rest (drop_all (length middle - n) (drop n before) (omega (arith, length-drop n before))) in
-    rw (p, front, all, none, drop-drop m n before, append-nil (second ++ drop (n + m) before), append_assoc first second (drop (n + m) before))
-
 -- the day's two ranges
 module _ (powers one two : List ℕ) (clock : Clock) {yearly carry : ℕ} (joined : one ++ two ≡ positions clock powers) (small : SmallPowers powers yearly carry) where
   pub first-range : SmallPowers one yearly carry
@@ -77,7 +64,7 @@ module _ (powers one two : List ℕ) (clock : Clock) {yearly carry : ℕ} (joine
       (put_mid (length one) (length middle - length one) middle part)
   unfolding RunsJoin
   day {before} {middle} {first = first} {second} count room f g =
-      let stored = behind (figures yearly one carry) (figures yearly two first.carry) before (length one) (length two)
+      let stored = stored-behind (figures yearly one carry) (figures yearly two first.carry) before (length one) (length two)
       (length-figures yearly one carry) (length-figures yearly two first.carry) (omega arith) f.figures_stored g.figures_stored in
       record {
         figures_stored = rw (← joined, ← count, figures-append yearly one two carry, ← f.carry_is) stored;

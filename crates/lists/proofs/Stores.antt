@@ -2,12 +2,12 @@
 -- a list by turns. Assumes nothing.
 use mathlib.Core.Path.{◌≡◌, refl, sym, ◌∙◌, ap}
 use mathlib.Core.List.{List, [], ◌∷◌, ◌++◌, append_assoc}
-use Prim.Native.Nat.{ℕ, suc, ◌+◌, ◌≤◌}
+use Prim.Native.Nat.{ℕ, suc, ◌+◌, ◌-◌, ◌≤◌}
 use native.Mathlib.Nat.{zero-add, add-zero}
 use native.Mathlib.Omega.{arith}
-use lib.ListN.{length, take, drop, set}
+use lib.ListN.{length, take, drop, set, length-append, length-drop}
 use borrow.Rule.Slice.PartMut.{put_mid}
-use Rattle.std.proofs.lemmas.List.{drop-drop}
+use Rattle.std.proofs.lemmas.List.{take_at, drop_at, drop-drop, take_all, drop_all, append-nil}
 use lib.Seq.{sets, sets-eq, set_comm, length-sets}
 
 module _ {A : Type 0} where
@@ -24,6 +24,20 @@ module _ {A : Type 0} where
   pub part-stored : (memory part list : List A) (at n : ℕ) → part ≡ list → length list ≡ n → at + n ≤ length memory → put_mid at n memory part ≡ sets memory at list
   part-stored memory part list at n e size room =
       rw (e, drop-drop n at memory) (sym (stored list memory at size room))
+
+  -- a list stored behind another, in the part of memory behind it
+  pub stored-behind : (first second before : List A) (n m : ℕ) {middle part : List A} → length first ≡ n → length second ≡ m → n + m ≤ length before →
+      middle ≡ first ++ drop n before → part ≡ second ++ drop m (take (length middle - n) (drop n middle)) →
+      put_mid n (length middle - n) middle part ≡ (first ++ second) ++ drop (n + m) before
+  stored-behind first second before n m {middle} {part} e f room s p =
+      let front : take n middle ≡ first = rw s (take_at first (drop n before) n e) in
+      let rest : drop n middle ≡ drop n before = rw s (drop_at first (drop n before) n e) in
+      let kept : length middle ≡ length before = rw s (omega (arith, length-append first (drop n before), length-drop n before)) in
+      let all : take (length middle - n) (drop n middle) ≡ drop n before =
+      rw rest (take_all (length middle - n) (drop n before) (omega (arith, length-drop n before))) in
+      let none : drop (length middle - n) (drop n middle) ≡ [] =
+      rw rest (drop_all (length middle - n) (drop n before) (omega (arith, length-drop n before))) in
+      rw (p, front, all, none, drop-drop m n before, append-nil (second ++ drop (n + m) before), append_assoc first second (drop (n + m) before))
 
   -- stores of one list and then of another, behind it
   pub sets-append : (memory first second : List A) (at : ℕ) → sets memory at (first ++ second) ≡ sets (sets memory at first) (at + length first) second

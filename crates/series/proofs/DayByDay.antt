@@ -3,9 +3,9 @@
 -- Assumes nothing.
 use mathlib.Core.Path.{◌≡◌, refl, sym, ◌∙◌, ap}
 use mathlib.Core.Bool.{true}
-use mathlib.Core.List.{List, [], ◌∷◌, ◌++◌, map, map-append, append_assoc, append-nil}
-use Prim.Native.Nat.{ℕ, zero, suc, ◌+◌, ◌-◌, ◌*◌, ◌^◌, ◌≤◌, ◌<◌}
-use native.Mathlib.Nat.{zero-add, mul-le-mul}
+use mathlib.Core.List.{List, [], ◌∷◌, ◌++◌, map-append, append_assoc, append-nil}
+use Prim.Native.Nat.{ℕ, zero, suc, ◌+◌, ◌-◌, ◌*◌, ◌^◌, ◌≤◌}
+use native.Mathlib.Nat.{mul-le-mul}
 use native.Mathlib.Omega.{arith}
 use lib.ListN.{length, get_or, length-append, length-map}
 use Rattle.lists.specs.Lists.{sum, Each}
@@ -20,9 +20,9 @@ use Rattle.calendar_period.specs.Period.{dates_from}
 use Rattle.calendar_period.proofs.Periods.{values-small}
 use Rattle.carry.specs.declared.Totals.{Totals}
 use Rattle.carry.specs.Totals.{together}
-use Rattle.carry.specs.Carry.{largest_carry, figures, last_carry}
+use Rattle.carry.specs.Carry.{figures, last_carry}
 use Rattle.carry.specs.Energy.{powers}
-use Rattle.carry.proofs.Carry.{figures-append, carry-append, length-figures, carry-small, telescope}
+use Rattle.carry.proofs.Carry.{figures-append, carry-append, carry-small, telescope}
 use Rattle.day_powers.specs.DayQuarters.{Basis, day_quarters}
 use Rattle.day_powers.proofs.DayQuarters.{each-position, day-powers-positions}
 use Rattle.series.specs.Inside.{GroupValues, InRange, comes_to}
@@ -59,17 +59,20 @@ powers-all b (suc n) d =
 pub comes-together : (yearly carry : ℕ) (first second : List ℕ) →
     comes_to yearly (first ++ second) carry ≡ together (comes_to yearly first carry) (comes_to yearly second (last_carry yearly first carry))
 comes-together yearly carry first second =
-    rw (length-append first second, figures-append yearly first second carry,
-      sum-append (figures yearly first carry) (figures yearly second (last_carry yearly first carry)), carry-append yearly first second carry)
+    rw (
+      length-append first second,
+      figures-append yearly first second carry,
+      sum-append (figures yearly first carry) (figures yearly second (last_carry yearly first carry)),
+      carry-append yearly first second carry,
+    )
 
 -- the whole's figures can be counted and added up
 pub record Fits (yearly carry : ℕ) (whole : List ℕ) : Type 0 where
   pub few : length whole ≤ 146_100
   pub most : sum (figures yearly whole carry) ≤ 146_100 * 10 ^ 9
 
--- the days so far have the powers `done`, and come to `totals`; those of `left` are still to come
-pub record SoFar (b : Basis) (yearly carry : ℕ) (whole : List ℕ) (left : List (Date × DayKind)) (totals : Totals) : Type 0 where
-  pub done : List ℕ
+-- the days so far have the powers `done` and come to `totals`; those of `left` are still to come
+pub record SoFar (b : Basis) (yearly carry : ℕ) (whole done : List ℕ) (left : List (Date × DayKind)) (totals : Totals) : Type 0 where
   pub parts : done ++ powers_on b left ≡ whole
   pub come_to : totals ≡ comes_to yearly done carry
   pub kinds : OwnKinds b.holidays left
@@ -115,11 +118,10 @@ module _ (b : Basis) (sound : GroupValues b.values) where
 
   -- no day is done yet
   pub start : {yearly carry : ℕ} (n : ℕ) (d : Date) → InRange yearly carry → n ≤ 1_461 → AllDates n d →
-      SoFar b yearly carry (powers_from b n d) (with_kinds b.holidays (dates_from n d)) (record { count = 0; total = 0; carry = carry })
+      SoFar b yearly carry (powers_from b n d) [] (with_kinds b.holidays (dates_from n d)) (record { count = 0; total = 0; carry = carry })
   unfolding figures last_carry sum
   start n d range few real =
       record {
-        done = [];
         parts = powers-all b n d;
         come_to = refl;
         kinds = own-kinds b.holidays (dates_from n d);
@@ -127,24 +129,27 @@ module _ (b : Basis) (sound : GroupValues b.values) where
         fits = whole-fits n d range few real;
       }
 
-module _ {b : Basis} {yearly carry : ℕ} {whole : List ℕ} {left : List (Date × DayKind)} {totals : Totals}
-    (s : SoFar b yearly carry whole left totals) where
+module _ {b : Basis} {yearly carry : ℕ} {whole done : List ℕ} {left : List (Date × DayKind)} {totals : Totals}
+    (s : SoFar b yearly carry whole done left totals) where
   -- all days are done
+  pub all-parts : left ≡ [] → done ≡ whole
+  all-parts none = sym (append-nil done) ∙ (rw none at s.parts)
+
   pub all-done : left ≡ [] → totals ≡ comes_to yearly whole carry
-  all-done none = s.come_to ∙ ap (λ (all : List ℕ). comes_to yearly all carry) (sym (append-nil s.done) ∙ (rw none at s.parts))
+  all-done none = s.come_to ∙ ap (λ (all : List ℕ). comes_to yearly all carry) (all-parts none)
 
   -- the carry so far is in range
   pub in-range : InRange yearly totals.carry
   in-range =
-      record { yearly_small = s.range.yearly_small; carry_small = rw s.come_to (carry-small yearly carry s.done s.range.carry_small) }
+      record { yearly_small = s.range.yearly_small; carry_small = rw s.come_to (carry-small yearly carry done s.range.carry_small) }
 
   -- the next day and those behind it
   module _ {d : Date} {kind : DayKind} {rest : List (Date × DayKind)} (e : left ≡ (d, kind) ∷ rest) where
-    split : s.done ++ (day_powers b d ++ powers_on b rest) ≡ whole
+    split : done ++ (day_powers b d ++ powers_on b rest) ≡ whole
     split = rw e at s.parts
 
-    joined : (s.done ++ day_powers b d) ++ powers_on b rest ≡ whole
-    joined = append_assoc s.done (day_powers b d) (powers_on b rest) ∙ split
+    joined : (done ++ day_powers b d) ++ powers_on b rest ≡ whole
+    joined = append_assoc done (day_powers b d) (powers_on b rest) ∙ split
 
     pub next-kind : kind ≡ day_kind d b.holidays
     next-kind = (rw e at s.kinds).0
@@ -153,27 +158,26 @@ module _ {b : Basis} {yearly carry : ℕ} {whole : List ℕ} {left : List (Date 
     abbrev today : Totals
     today = comes_to yearly (day_powers b d) totals.carry
 
-    with_today : together totals today ≡ comes_to yearly (s.done ++ day_powers b d) carry
-    with_today = rw s.come_to (sym (comes-together yearly carry s.done (day_powers b d)))
+    with_today : together totals today ≡ comes_to yearly (done ++ day_powers b d) carry
+    with_today = rw s.come_to (sym (comes-together yearly carry done (day_powers b d)))
 
     pub count-fits : totals.count + length (day_powers b d) ≤ length whole
     count-fits =
         let counts = ap (λ (t : Totals). t.count) s.come_to in
-        omega (arith, ap length split, length-append s.done (day_powers b d ++ powers_on b rest), length-append (day_powers b d) (powers_on b rest))
+        omega (arith, ap length split, length-append done (day_powers b d ++ powers_on b rest), length-append (day_powers b d) (powers_on b rest))
 
     pub total-fits : totals.total + sum (figures yearly (day_powers b d) totals.carry) ≤ 146_100 * 10 ^ 9
     total-fits =
         let all = rw (sym joined) at s.fits.most in
-        let parts = comes-together yearly carry (s.done ++ day_powers b d) (powers_on b rest) in
+        let parts = comes-together yearly carry (done ++ day_powers b d) (powers_on b rest) in
         let totals_of = ap (λ (t : Totals). t.total) with_today in
         let sums = ap (λ (t : Totals). t.total) parts in
         omega arith
 
     -- a turn
-    pub day-done : {r : Totals} → r ≡ together totals today → SoFar b yearly carry whole rest r
+    pub day-done : {r : Totals} → r ≡ together totals today → SoFar b yearly carry whole (done ++ day_powers b d) rest r
     day-done h =
         record {
-          done = s.done ++ day_powers b d;
           parts = joined;
           come_to = h ∙ with_today;
           kinds = (rw e at s.kinds).1;

@@ -3,7 +3,7 @@
 use mathlib.Core.Path.{◌≡◌, sym, ◌∙◌}
 use mathlib.Core.Bool.{true}
 use mathlib.Core.List.{List}
-use Prim.Native.Nat.{ℕ, ◌+◌, ◌*◌, ◌≤◌, ◌<◌}
+use Prim.Native.Nat.{ℕ, ◌≤◌, ◌<◌}
 use native.Mathlib.Omega.{arith}
 use lib.ListN.{length, get_or, length-map}
 use Rattle.calendar_dates.specs.declared.Date.{Date}
@@ -17,13 +17,12 @@ use Rattle.dynamisation.proofs.Days.{Day}
 use Rattle.dynamisation.proofs.Dynamisation.{F-small}
 use Rattle.carry.specs.Energy.{powers}
 use Rattle.carry_quotients.specs.declared.Carried.{Carried}
-use Rattle.carry_quotients.specs.Inside.{SmallPowers}
 use Rattle.carry_day.specs.Inside.{DayCarried}
 use Rattle.day_powers.specs.DayTable.{day_table_of, day_table_at, day_values}
 use Rattle.day_powers.specs.Inside.{DayTableInside, powers_by}
 use Rattle.day_powers.specs.DayQuarters.{Basis, day_quarters}
 use Rattle.day_powers.proofs.DayQuarters.{powers-small, length-day-quarters, day-powers-positions}
-use Rattle.series.specs.Inside.{GroupValues, InRange, comes_to, Filled}
+use Rattle.series.specs.Inside.{GroupValues, Filled}
 
 -- one of the nine tables of a group's values
 pub own-table : {index : ℕ} {values : List ℕ} → GroupValues values → index < 9 → DayTableInside index values

@@ -1,14 +1,14 @@
 -- The days of a period with their kinds: no date is earlier than one before it, and what a list of holidays says of the later dates
 -- stays. Assumes nothing.
-use Rattle.std.proofs.Common.{◌≡◌, ℕ, zero, suc, ◌+◌, ◌-◌, ◌≤◌, ◌<◌, Bool, true, List, [], ◌∷◌, map, ap, sym, ◌∙◌, arith}
+use Rattle.std.proofs.Common.{◌≡◌, ℕ, zero, suc, ◌-◌, ◌≤◌, Bool, List, [], ◌∷◌, arith}
 use Rattle.lists.specs.Lists.{Each}
 use Rattle.calendar_dates.specs.declared.Date.{Date}
-use Rattle.calendar_dates.specs.Dates.{number_of, is_date, next_day, AllDates}
+use Rattle.calendar_dates.specs.Dates.{number_of, next_day, AllDates}
 use Rattle.calendar_dates.proofs.Later.{all_first, all-next}
 use Rattle.calendar_dates.proofs.NextDay.{next-day-counts}
 use Rattle.calendar_holidays.specs.Holidays.{listed}
 use Rattle.calendar_days.specs.declared.DayKind.{DayKind}
-use Rattle.calendar_days.specs.Days.{season, day_type_when, day_kind}
+use Rattle.calendar_days.specs.Days.{season, day_type_when}
 use Rattle.calendar_period.specs.Period.{dates_from}
 use Rattle.series.specs.Kinds.{with_kinds, Rising}
 

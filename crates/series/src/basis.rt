@@ -70,6 +70,10 @@ impl<'a> Basis<'a> {
         ensures group_values { GroupValues self.now.values }
     {
         let table = day_powers::day_table_index(kind.season, kind.day_type);
-        day_powers::powers_of(self.values, table, dynamisation::factor(self.group, day.day_of_year()))
+        day_powers::powers_of(
+            self.values,
+            table,
+            dynamisation::factor(self.group, day.day_of_year()),
+        )
     }
 }
