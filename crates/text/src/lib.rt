@@ -20,6 +20,8 @@ pub struct Page<'a> {
     pub at: usize,
 }
 
+// Kept: numbers and dates are put by hand. With an `impl fmt::Write for Page`, `write!` is known to have put a text only where it
+// answers Ok; that it does so where there is room stayed open.
 impl<'a> Page<'a> {
     // Puts one byte.
     pub fn put_byte(&mut self, byte: u8)

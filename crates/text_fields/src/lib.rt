@@ -11,6 +11,7 @@ use calendar_days::{DayKind, Season};
 pub use day_line::{DayEntry, DayLine};
 use text::Page;
 
+// Kept: Season's own Display writes to a formatter, and a `write!` to a page is not known to succeed.
 fn season_letter(season: Season) -> u8
     ensures { result ≡ season_letter season }
 {
