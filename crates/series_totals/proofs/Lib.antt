@@ -1,2 +1,1 @@
-pub mod OneDay
-pub mod DayByDay
+pub mod Summing

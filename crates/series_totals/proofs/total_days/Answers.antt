@@ -1,44 +1,41 @@
--- `series_totals::total_days` meets its contract: a turn is one day (proofs/DayByDay.antt), and the entries in front of the place are
--- earlier than the day.
-use native.Mathlib.Omega.{arith}
-use Rattle.calendar_dates.specs.Dates.{number_of}
-use Rattle.calendar_dates.proofs.NextDay.{next-day-counts}
-use Rattle.calendar_holidays.proofs.Holidays.{from_start, on-later-day}
-use Rattle.day_powers.specs.DayQuarters.{basis}
-use Rattle.series.proofs.DayByDay.{this-day}
-use Rattle.series_totals.proofs.DayByDay.{none-summed, all-summed, sums-fit, day-summed}
+-- `series_totals::total_days` meets its contract: a turn is one day (proofs/Summing.antt).
+use Rattle.std.proofs.Common.{arith, ap, []}
+use Rattle.carry.specs.declared.Totals.{Totals}
+use Rattle.series.proofs.DayByDay.{start, in-range, next-kind, count-fits, total-fits, all-done}
+use Rattle.series_totals.proofs.Summing.{day-summed}
 use Rattle.series_totals.proofs.total_days.Goals as goal
 
-pub loop-left-init : goal.loop-left-init
-loop-left-init c =
-    let a = c.args in (
-      none-summed (basis a.values.now a.group a.holidays.now) c.requires.group_values c.requires.real_days c.requires.in_range,
-      from_start a.holidays.now (number_of a.first.date),
-    )
+pub loop-day-init : goal.loop-day-init
+loop-day-init c =
+    let days = c.days-day-items.ensures in
+    let p = c.args.period in
+    let zero = c.default.ensures in
+    record {
+      done = [];
+      so_far = rw (c.into_iter-day-iterator.ensures.into_iter_gives, days.value, zero.0, zero.1.0)
+          (start c.args.basis.now days.group_values p.days p.first c.requires days.few days.real);
+    }
 
-pub number_of-requires : goal.number_of-requires
-number_of-requires c = (this-day c.loop-left.invariant.0.days_left (omega arith)).real
+pub total_day-today-requires-clause-own_kind : goal.total_day-today-requires-clause-own_kind
+total_day-today-requires-clause-own_kind c = next-kind c.loop-day.invariant.so_far c.in-Some.ensures.steps
 
-pub total_day-today-requires-clause-real_day : goal.total_day-today-requires-clause-real_day
-total_day-today-requires-clause-real_day c = this-day c.loop-left.invariant.0.days_left (omega arith)
+pub total_day-today-requires-clause-in_range : goal.total_day-today-requires-clause-in_range
+total_day-today-requires-clause-in_range c = in-range c.loop-day.invariant.so_far
 
-pub overflow_add-count : goal.overflow_add-count
-overflow_add-count c = omega (arith, (sums-fit c.loop-left.invariant.0 (omega arith) c.total_day-today.ensures).0)
+pub and-so_far-requires-clause-count : goal.and-so_far-requires-clause-count
+and-so_far-requires-clause-count c =
+    let s = c.loop-day.invariant.so_far in
+    let few = s.fits.few in
+    let today = ap (λ (t : Totals). t.count) c.total_day-today.ensures in
+    omega (arith, count-fits s c.in-Some.ensures.steps)
 
-pub overflow_add-total : goal.overflow_add-total
-overflow_add-total c = omega (arith, (sums-fit c.loop-left.invariant.0 (omega arith) c.total_day-today.ensures).1)
+pub and-so_far-requires-clause-total : goal.and-so_far-requires-clause-total
+and-so_far-requires-clause-total c =
+    let today = ap (λ (t : Totals). t.total) c.total_day-today.ensures in
+    omega (arith, total-fits c.loop-day.invariant.so_far c.in-Some.ensures.steps)
 
-pub day_after-day-requires-clause-date_value : goal.day_after-day-requires-clause-date_value
-day_after-day-requires-clause-date_value c = (this-day c.loop-left.invariant.0.days_left (omega arith)).real
-
-pub loop-left-preserved : goal.loop-left-preserved
-loop-left-preserved c =
-    let l = c.loop-left in
-    let real = (this-day l.invariant.0.days_left (omega arith)).real in
-    let reached = rw c.number_of.ensures at c.next_entry-place.ensures in (
-      day-summed l.invariant.0 (omega arith) c.total_day-today.ensures c.day_after-day.ensures,
-      rw c.day_after-day.ensures (on-later-day (next-day-counts l.day.date real).later reached),
-    )
+pub loop-day-preserved : goal.loop-day-preserved
+loop-day-preserved c = day-summed c.loop-day.invariant c.in-Some.ensures.steps c.total_day-today.ensures c.and-so_far.ensures
 
 pub returns : goal.returns
-returns c = all-summed c.loop-left.invariant.0 (omega arith)
+returns c = all-done c.loop-day.invariant.so_far c.in-None.ensures.steps.0
