@@ -1,1 +1,2 @@
 pub mod ClockChanges
+pub mod MonthDays

@@ -64,31 +64,20 @@ const SATURDAY: u32 = 6;
 
 const SUNDAY: u32 = 7;
 
-// Month and day as one number, mmdd.
-#[tactic(auto, using(calendar_dates::proofs::Dates::parts))]
-fn month_day(date: Date) -> u32
-    requires { is_date date ≡ true }
-    ensures { result ≡ month_day date }
-{
-    date.month * 100 + date.day
-}
-
 // Whether a date is on or after that day and month of its year.
-#[tactic(auto, unfolding(crate::specs::Days::from))]
 fn from(date: Date, day: u32, month: u32) -> bool
-    requires { (is_date date ≡ true) × (day ≤ 31) × (month ≤ 12) }
+    requires { (is_date date ≡ true) × (day ≤ 31) }
     ensures { result ≡ from date day month }
 {
-    month * 100 + day <= month_day(date)
+    Date { month, day, ..date } <= date
 }
 
 // Whether a date is on or before that day and month of its year.
-#[tactic(auto, unfolding(crate::specs::Days::to))]
 fn to(date: Date, day: u32, month: u32) -> bool
-    requires { (is_date date ≡ true) × (day ≤ 31) × (month ≤ 12) }
+    requires { (is_date date ≡ true) × (day ≤ 31) }
     ensures { result ≡ to date day month }
 {
-    month_day(date) <= month * 100 + day
+    date <= Date { month, day, ..date }
 }
 
 // Source document 000, step 2, in its order.

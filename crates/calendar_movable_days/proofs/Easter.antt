@@ -1,14 +1,11 @@
--- The formula for Easter is the computus in every year of the span: one computed test; and so is where it can fall. Assumes nothing.
+-- The formula for Easter is the computus in every year of the span: one computed test. Assumes nothing.
 use mathlib.Core.Path.{◌≡◌}
-use mathlib.Core.Bool.{Bool, ◌&&◌}
-use Prim.Native.Nat.{ℕ, ◌+◌, ◌-◌, ◌*◌, ◌/◌, ◌%◌, ◌≤◌}
-use lib.Dec.{leb, leb→le}
-use mir.Facts.{and_yes}
+use Prim.Native.Nat.{ℕ, ◌+◌, ◌-◌, ◌*◌, ◌/◌, ◌%◌}
 use Rattle.calendar_dates.specs.Dates.{leap_days, month_length, days_of_months, day_of_year, days_of_years, day_number, weekday_of, next_day, days_later}
 use Rattle.calendar_movable_days.specs.Counted.{march_day, days_until}
 use Rattle.calendar_movable_days.specs.Easter.{golden_number, century, solar_correction, lunar_correction, cycle_epact, epact, paschal_full_moon, easter_day}
 use Rattle.calendar_movable_days.specs.Inside.{InSpan}
-use Rattle.calendar_movable_days.proofs.Years.{in-year, same}
+use Rattle.calendar_movable_days.proofs.Years.{same}
 
 -- days from 21 March to the full moon, before the exceptions
 abbrev behind : ℕ → ℕ
@@ -23,13 +20,3 @@ formula year = full_moon year + 7 - (year + year / 4 + full_moon year + 1) % 7
 pub formula-is-easter : (year : ℕ) → InSpan year → formula year ≡ easter_day year
 unfolding leap_days month_length days_of_months day_of_year days_of_years day_number weekday_of next_day days_later golden_number century solar_correction lunar_correction cycle_epact epact paschal_full_moon march_day days_until easter_day
 formula-is-easter year s = same formula easter_day tt year s
-
--- from 23 March to 25 April
-abbrev range-test : ℕ → Bool
-range-test year = leb 23 (easter_day year) && leb (easter_day year) 56
-
-pub easter-range : (year : ℕ) → InSpan year → (23 ≤ easter_day year) × (easter_day year ≤ 56)
-unfolding leap_days month_length days_of_months day_of_year days_of_years day_number weekday_of next_day days_later golden_number century solar_correction lunar_correction cycle_epact epact paschal_full_moon march_day days_until easter_day
-easter-range year s =
-    let both = and_yes (leb 23 (easter_day year)) (leb (easter_day year) 56) (in-year range-test tt year s) in
-    (leb→le 23 (easter_day year) both.0, leb→le (easter_day year) 56 both.1)

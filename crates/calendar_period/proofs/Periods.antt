@@ -66,11 +66,6 @@ module _ (first last : ℕ) where
       then-pass _ (ask-yes (BadDate 0) p.dates-first) ∙ then-pass _ (ask-yes (BadDate 1) p.dates-last)
       ∙ ask-yes BadPeriod (rw (le-leb _ _ p.ordered, le-leb _ _ p.short))
 
--- a date whose question passed
-pub real-date : (number place : ℕ) → date_question number place ≡ Pass → is_date (date_of number) ≡ true
-unfolding date_question
-real-date number place h = ask-passed _ (BadDate place) h
-
 -- the days from one date to another are dates
 pub all-between : (first last : Date) → is_date first ≡ true → is_date last ≡ true → day_number first ≤ day_number last → AllDates (days_of first last) first
 unfolding days_of
