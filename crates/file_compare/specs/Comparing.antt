@@ -1,14 +1,16 @@
 -- Document 01, "The profile file": what comparing answers, accepted and refused. The theorems are proved in proofs/Same.antt.
-use Rattle.std.specs.Prelude.{Ok, Err}
-use Rattle.std.specs.Prelude.{◌≡◌, Bool, true, false, cond, ◌&&◌, List, [], ◌∷◌, ℕ, eqb}
-use Rattle.refusal.specs.Questions.{Verdict}
-use Rattle.refusal.specs.Questions.{Pass}
-use Rattle.refusal.specs.Questions.{refusal_number, refusal_place, ◌then◌}
+use Rattle.std.specs.Prelude.{Result, Ok, Err, ◌≡◌, Bool, true, false, cond, ◌&&◌, List, [], ◌∷◌, ℕ, eqb}
+use Rattle.refusal.specs.declared.Refusal.{Refusal}
+use Rattle.refusal.specs.Questions.{Verdict, Pass, refusal_number, refusal_place, ◌then◌}
 use Rattle.file_check.specs.Check.{file_check}
 use Rattle.file_group.specs.Group.{group_question, table_of}
-use Rattle.file_compare.specs.Comparing.{Comparison}
+use Rattle.file_compare.specs.declared.Likeness.{Likeness}
 use Rattle.file_compare.specs.declared.Likeness.TheVariants.{Alike, Different}
 use Rattle.file_compare.specs.declared.ComparisonReport.{ComparisonReport}
+
+-- whether two groups are alike, or the refusal
+abbrev pub Comparison : Type 0
+Comparison = Result Likeness Refusal
 
 -- Comparing: questions 1 to 6, "with place 0 or 1 in question 6 for the first group missing"
 abbrev pub compare_check : List ℕ → ℕ → ℕ → Verdict
@@ -26,7 +28,7 @@ comparison file first second =
     compared (compare_check file first second) (same (table_of file first) (table_of file second))
   where
     compared : Verdict → Bool → Comparison
-    compared (Ok _) alike = cond alike Alike Different
+    compared (Ok _) alike = Ok (cond alike Alike Different)
     compared (Err r) alike = Err r
 
 -- "exactly when all 864 values agree": lists that are the same are equal, and equal ones the same
@@ -37,11 +39,11 @@ SameIsEqual = (a b : List ℕ) → (same a b ≡ true → a ≡ b) × (a ≡ b �
 unfoldable pub AlikeIsEqual : Type 0
 AlikeIsEqual =
     (file : List ℕ) (first second : ℕ) → compare_check file first second ≡ Pass →
-    (comparison file first second ≡ Alike → table_of file first ≡ table_of file second)
-    × (table_of file first ≡ table_of file second → comparison file first second ≡ Alike)
+    (comparison file first second ≡ Ok Alike → table_of file first ≡ table_of file second)
+    × (table_of file first ≡ table_of file second → comparison file first second ≡ Ok Alike)
 
 -- the numbers for each case of the answer; 1 for alike is our choice
 abbrev pub reported : Comparison → ComparisonReport
-reported Alike = record { number = 0; place = 0; alike = 1 }
-reported Different = record { number = 0; place = 0; alike = 0 }
+reported (Ok Alike) = record { number = 0; place = 0; alike = 1 }
+reported (Ok Different) = record { number = 0; place = 0; alike = 0 }
 reported (Err r) = record { number = refusal_number r; place = refusal_place r; alike = 0 }

@@ -1,89 +1,59 @@
 // Comparing two groups of a file: questions 1 to 6, and whether all their values agree.
 #![tactic(auto)]
 
-ghost use Rattle.std.specs.Prelude.{◌≡◌, length};
-ghost use Rattle.big_endian.specs.Inside.{words_of};
-ghost use Rattle.file_compare.specs.Comparing.{same, comparison, reported};
+ghost use Rattle.std.specs.Prelude.{◌≡◌};
+ghost use Rattle.file_compare.specs.Comparing.{comparison, reported};
 
-use file_group::Found;
 use refusal::Refusal;
 
-// What comparing two groups says.
-#[derive(Clone, Copy)]
-pub enum Comparison {
+// Whether all values of two groups agree.
+#[derive(Clone, Copy, Debug, PartialEq, Eq)]
+pub enum Likeness {
     Alike,
     Different,
-    Refused(Refusal),
 }
 
 // The answer in numbers: number and place are 0 when the groups were compared.
 #[repr(C)]
-#[derive(Clone, Copy)]
+#[derive(Clone, Copy, Default)]
 pub struct ComparisonReport {
     pub number: u32,
     pub place: usize,
     pub alike: u32,
 }
 
-// Whether the values of two parts of one length agree.
-fn same_values(a: &[u8], b: &[u8]) -> bool
-    requires { length a.now ≡ length b.now }
-    ensures { result ≡ same (words_of a.now) (words_of b.now) }
-{
-    let mut left = a.len() / 2;
-    let mut at: usize = 0;
-    while 0 < left {
-        if big_endian::word_at(a, at) != big_endian::word_at(b, at) {
-            return false;
-        }
-        at += 2;
-        left -= 1;
-    }
-    true
-}
-
 // Alike exactly when all values of the two groups agree.
-pub fn compare(file: &[u8], first: u8, second: u8) -> Result<Likeness, Refusal>
-    ensures value { result ≡ comparison file.now first second }
-    ensures result_value { reported result ≡ reported (comparison file.now first second) }
+#[tactic(auto, unfolding(crate::specs::Comparing::comparison))]
+pub fn compare(bytes: &[u8], first: u8, second: u8) -> Result<Likeness, Refusal>
+    ensures value { result ≡ comparison bytes.now first second }
+    ensures result_value { reported result ≡ reported (comparison bytes.now first second) }
 {
-    let a = file_group::find_checked(file, first)?;
-    let b = file_group::find(file, second, 1)?;
-    if same_values(
-        file_group::value_bytes(file, a),
-        file_group::value_bytes(file, b),
-    ) {
+    let file = file_check::check_file(bytes)?;
+    let one = file_layout::value_bytes(bytes, file_group::find(file, first, 0)?);
+    let other = file_layout::value_bytes(bytes, file_group::find(file, second, 1)?);
+    if one == other {
         Ok(Likeness::Alike)
     } else {
         Ok(Likeness::Different)
     }
 }
 
-fn report_refusal(refusal: Refusal) -> ComparisonReport
-    ensures { result ≡ reported (Comparison.Refused refusal) }
-{
-    ComparisonReport {
-        number: refusal.number(),
-        place: refusal.place(),
-        alike: 0,
-    }
-}
-
 // The answer in numbers: 1 for alike, 0 for different and on a refusal.
-pub fn report(answer: Result<Likeness, Refusal>) -> ComparisonReport
-    ensures { result ≡ reported answer }
-{
-    match answer {
-        Ok(Likeness::Alike) => ComparisonReport {
-            number: 0,
-            place: 0,
-            alike: 1,
-        },
-        Ok(Likeness::Different) => ComparisonReport {
-            number: 0,
-            place: 0,
-            alike: 0,
-        },
-        Err(refusal) => report_refusal(refusal),
+impl From<Result<Likeness, Refusal>> for ComparisonReport {
+    ghost from_gives = { λ a r. r ≡ reported a };
+
+    fn from(answer: Result<Likeness, Refusal>) -> ComparisonReport {
+        match answer {
+            Ok(Likeness::Alike) => ComparisonReport {
+                alike: 1,
+                ..ComparisonReport::default()
+            },
+            Ok(Likeness::Different) => ComparisonReport::default(),
+            Err(refusal) => ComparisonReport {
+                number: refusal.number(),
+                place: refusal.place(),
+                ..ComparisonReport::default()
+            },
+        }
     }
 }
