@@ -20,7 +20,7 @@ use Rattle.calendar_reading_periods.specs.ReadingPeriods.{readings_question, fir
 use Rattle.calendar_reading_periods.proofs.ReadingPeriods.{Counted, counted, all-dates, begins}
 use Rattle.carry.specs.Carry.{largest_use}
 use Rattle.call_request.specs.Request.{Request, basis_of, series, use_question, ahead_of_period}
-use Rattle.call_request.proofs.Request.{Sound, passes}
+use Rattle.call_request.proofs.Sound.{Sound, passes}
 use Rattle.call_open.specs.declared.Opening.{Opening}
 use Rattle.call_open.specs.Inside.{opening}
 use Rattle.call_open.proofs.Given.{answers-request, OpenedFor, opened-for}

@@ -15,7 +15,7 @@ use Rattle.carry.specs.Energy.{powers}
 use Rattle.carry.proofs.Carry.{length-figures}
 use Rattle.series.specs.Inside.{Filled}
 use Rattle.call_request.specs.Request.{Request, quarters, series, request_check}
-use Rattle.call_request.proofs.Request.{Sound, sound}
+use Rattle.call_request.proofs.Sound.{Sound, sound}
 use Rattle.call_expansion.specs.Answered.{Expansion}
 use Rattle.call_expansion.specs.Answered.{reported}
 use Rattle.call_expand.specs.Expanding.{expand_check, totals, expansion, output_after, lent, IsExpanded, Expands}

@@ -1,49 +1,28 @@
 -- What a request that was opened is known to be, and what the functions below expanding and listing require. Assumes nothing.
-use Rattle.refusal.specs.Questions.{answered}
-use Rattle.std.specs.Prelude.{Ok, Err}
-use mathlib.Core.Path.{◌≡◌, refl, ◌∙◌}
-use mathlib.Core.Bool.{Bool, true, false}
-use mathlib.Core.List.{List}
-use Prim.Native.Nat.{ℕ, ◌≤◌, ◌<◌}
-use native.Mathlib.Omega.{arith}
+use Rattle.std.proofs.Common.{◌≡◌, refl, Bool, true, false, ℕ, ◌≤◌, List, length, get_or, Ok, Err, ◌∙◌, arith}
 use lib.Dec.{ltb}
-use lib.ListN.{length, get_or, get_or-eq_default}
+use lib.ListN.{get_or-eq_default}
 use borrow.Author.Tests.{ltb-true, ltb-false}
 use Rattle.big_endian.specs.Inside.{words_of}
-use Rattle.refusal.specs.declared.Refusal.{Refusal}
-use Rattle.refusal.specs.Questions.{Verdict}
-use Rattle.refusal.specs.Questions.{Pass}
-use Rattle.refusal.specs.Questions.{room_question}
+use Rattle.refusal.specs.Questions.{Verdict, Pass, answered, room_question}
 use Rattle.calendar_dates.specs.Dates.{date_of}
-use Rattle.calendar_period.specs.Period.{days_of, value_count_of_days}
-use Rattle.calendar_period.specs.Inside.{calendar_day, RealDays}
-use Rattle.calendar_laws.proofs.Periods.{period-days}
+use Rattle.calendar_period.specs.Period.{period_days, value_count_of_days}
 use Rattle.file_layout.specs.Header.{layout_of}
+use Rattle.file_layout.specs.Inside.{value_bytes}
 use Rattle.file_group.specs.Group.{table_of}
-use Rattle.file_group.specs.Inside.{value_bytes}
 use Rattle.file_group.proofs.Group.{Checked, check-passed, table-length, table-bound, FoundAt, part-words}
 use Rattle.day_powers.specs.DayQuarters.{basis, day_quarters}
 use Rattle.series.specs.Series.{quarters_of_days}
 use Rattle.series.specs.Inside.{GroupValues}
-use Rattle.call_request.specs.Request.{Request, days_in, quarters, series, request_check}
-use Rattle.call_request.proofs.Request.{Sound, sound, entries-needed}
+use Rattle.call_request.specs.Request.{Request, quarters, series, request_check}
+use Rattle.call_request.proofs.Sound.{Sound, sound, entries-needed}
 use Rattle.call_open.specs.declared.Opening.{Opening}
 use Rattle.call_open.specs.Inside.{opening}
 
--- what an answer tells of the questions asked, and the other way round
-pub opened-request : (v : Verdict) {o given : Opening} → Ok o ≡ answered v given → (v ≡ Pass) × (o ≡ given)
+-- what an answer tells of the questions asked
+opened-request : (v : Verdict) {o given : Opening} → Ok o ≡ answered v given → (v ≡ Pass) × (o ≡ given)
 opened-request (Ok _) h = (refl, cc)
 opened-request (Err r) h = let z : ◌≡◌ {A = ℕ} 0 1 = cc in absurd (omega arith)
-
-pub opened-refused : (v : Verdict) (given : Opening) {r : Refusal} → Err r ≡ answered v given → v ≡ Err r
-opened-refused (Ok _) given h = let z : ◌≡◌ {A = ℕ} 0 1 = cc in absurd (omega arith)
-opened-refused (Err r) given h = cc
-
-pub answers-request : {v : Verdict} {o given : Opening} → v ≡ Pass → o ≡ given → Ok o ≡ answered v given
-answers-request p e = rw (p, e)
-
-pub answers-refused : {v : Verdict} {r : Refusal} (given : Opening) → v ≡ Err r → Err r ≡ answered v given
-answers-refused given h = rw h
 
 -- a group's values in an accepted file: 864, none above 20,000
 module _ (file : List ℕ) (group : ℕ) (c : Checked file group) where
@@ -61,34 +40,19 @@ pub record OpenedFor (q : Request) (o : Opening) : Type 0 where
   pub passed : request_check q ≡ Pass
   pub sound : Sound q
   pub found : FoundAt q.file q.group o.at
-  pub day : o.first ≡ calendar_day (date_of q.first)
-  pub count : o.days ≡ days_in q
-  pub real : RealDays o.first o.days
-  pub some : 0 < o.days
+  pub period : o.period ≡ period_days (date_of q.first) (date_of q.last)
 
 pub opened-for : (q : Request) {o : Opening} → Ok o ≡ answered (request_check q) (opening q) → OpenedFor q o
-unfolding days_of
-opened-for q {o} h =
+opened-for q h =
     let told = opened-request _ h in
     let s = sound q told.0 in
-    let p = s.period in
-    let all = (period-days (date_of q.first) (date_of q.last) p.dates-first p.dates-last p.ordered).dates in
-    let ordered = p.ordered in
     rw told.1
-    (record {
-      passed = told.0;
-      sound = s;
-      found = record { checked = check-passed q.file q.group s.file; place = refl };
-      day = refl;
-      count = refl;
-      real = record { known = refl; few = p.short; all = all };
-      some = omega arith;
-    })
+    (record { passed = told.0; sound = s; found = record { checked = check-passed q.file q.group s.file; place = refl }; period = refl })
 
 module _ (q : Request) {o : Opening} (opened : OpenedFor q o) where
   -- question 12, of the days' quarter hours
-  pub room-needed : (room : ℕ) → room_question (value_count_of_days o.days o.first.date) room ≡ room_question (length (series q)) room
-  room-needed room = rw (opened.day, opened.count, entries-needed q)
+  pub room-needed : (room : ℕ) → room_question (value_count_of_days o.period.days o.period.first) room ≡ room_question (length (series q)) room
+  room-needed room = rw (opened.period, entries-needed q)
 
   -- the values at the group's place are the request's, and so are the quarter hours made of them
   module _ {values : List ℕ} (are : values ≡ words_of (value_bytes q.file o.at)) where
@@ -98,5 +62,5 @@ module _ (q : Request) {o : Opening} (opened : OpenedFor q o) where
     pub group-values : GroupValues values
     group-values = rw table_is (table-values q.file q.group opened.found.checked)
 
-    pub same-quarters : quarters_of_days (day_quarters (basis values q.group q.holidays)) o.days o.first.date ≡ quarters q
-    same-quarters = rw (table_is, opened.day, opened.count)
+    pub same-quarters : quarters_of_days (day_quarters (basis values q.group q.holidays)) o.period.days o.period.first ≡ quarters q
+    same-quarters = rw (table_is, opened.period)

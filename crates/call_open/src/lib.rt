@@ -1,63 +1,42 @@
 // The opening of a request (document 01): questions 1 to 8, and 1 to 11, the group found, the days counted.
 #![tactic(auto)]
 
-ghost use Rattle.std.specs.Prelude.{◌≡◌, []};
-ghost use Rattle.refusal.specs.Questions.{◌then◌};
+ghost use Rattle.std.specs.Prelude.{◌+◌, ◌≤◌, ◌≡◌, [], length, IfOk};
+ghost use Rattle.refusal.specs.Questions.{answered, ◌then◌};
 ghost use Rattle.calendar_period.specs.Period.{period_check};
-ghost use Rattle.call_request.specs.Request.{request, ahead_of_period, request_check};
-ghost use Rattle.refusal.specs.Questions.{answered};
+ghost use Rattle.file_layout.specs.Header.{layout_of, profile_length};
+ghost use Rattle.call_request.specs.Request.{asked, ahead_of_period, request_check};
 ghost use Rattle.call_open.specs.Inside.{opening_of, opening};
 
-use calendar_period::{CalendarDay, Counted};
-use file_group::Found;
+use calendar_period::Period;
+use call_request::Request;
 use refusal::Refusal;
 
-// What the questions found: where the group's code stands in the file, the first day and the number of days.
+// What the questions found: where the group's code stands in the file, and the period.
 #[derive(Clone, Copy)]
 pub struct Opening {
     pub at: usize,
-    pub first: CalendarDay,
-    pub days: u32,
-}
-
-// A request opened, or the refusal.
-#[derive(Clone, Copy)]
-pub enum Opened {
-    Open(Opening),
-    Refused(Refusal),
+    pub period: Period,
 }
 
 // Questions 1 to 8: the file, the group and the period.
 pub fn open_period(file: &[u8], group: u8, first: u32, last: u32) -> Result<Opening, Refusal>
-    ensures { result ≡ answered
+    ensures value { result ≡ answered
         (ahead_of_period file.now group then period_check first last)
         (opening_of file.now group first last) }
+    ensures inside { IfOk result (λ o. o.at + profile_length (layout_of file.now) ≤ length file.now) }
 {
     let at = file_group::find_checked(file, group)?;
-    let period = calendar_period::count_days(first, last)?;
-    let first = period.first;
-    Ok(Opening {
-        at,
-        first,
-        days: period.days,
-    })
+    let period = Period::new(first, last)?;
+    Ok(Opening { at, period })
 }
 
 // Questions 1 to 11: all that is asked of a request but the length of its output.
-pub fn open(
-    file: &[u8],
-    group: u8,
-    first: u32,
-    last: u32,
-    holidays: &[u32],
-    yearly: u32,
-    carry: u32,
-) -> Result<Opening, Refusal>
-    ensures { result ≡ answered
-        (request_check (request file.now group first last holidays.now yearly carry []))
-        (opening (request file.now group first last holidays.now yearly carry [])) }
+pub fn open(request: Request) -> Result<Opening, Refusal>
+    ensures value { result ≡ answered (request_check (asked request.entry [])) (opening (asked request.entry [])) }
+    ensures inside { IfOk result (λ o. o.at + profile_length (layout_of request.entry.file.now) ≤ length request.entry.file.now) }
 {
-    let opening = open_period(file, group, first, last)?;
-    call_request::behind_period(holidays, yearly, carry)?;
+    let opening = open_period(request.file, request.group, request.first, request.last)?;
+    call_request::behind_period(request.holidays, request.yearly, request.carry)?;
     Ok(opening)
 }

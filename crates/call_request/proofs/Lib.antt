@@ -1,1 +1,1 @@
-pub mod Request
+pub mod Sound

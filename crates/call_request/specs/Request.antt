@@ -4,6 +4,7 @@ use Rattle.std.specs.Prelude.{List, ℕ, leb}
 use Rattle.refusal.specs.declared.Refusal.TheVariants.{BadUse, BadCarry}
 use Rattle.refusal.specs.Questions.{Verdict}
 use Rattle.refusal.specs.Questions.{ask, ◌then◌}
+use Rattle.call_request.specs.declared.request.Request.{Request as Arguments}
 use Rattle.calendar_dates.specs.Dates.{date_of}
 use Rattle.calendar_holidays.specs.Holidays.{holidays_question}
 use Rattle.calendar_period.specs.Period.{days_of, period_check}
@@ -37,6 +38,11 @@ request file group first last holidays yearly carry output =
       carry = carry;
       output = output;
     }
+
+-- the same of a call's arguments, with the lent output as it was before
+abbrev pub asked : Arguments → List ℕ → Request
+asked call output =
+    request call.file.now call.group call.first call.last call.holidays.now call.yearly call.carry output
 
 -- the number of days of the period
 abbrev pub days_in : Request → ℕ

@@ -1,16 +1,19 @@
 // What expanding, the day page and the program are given (document 01): a request, and its questions 9 to 12.
 #![tactic(auto)]
 
+mod request;
+
 ghost use Rattle.std.specs.Prelude.{◌≡◌};
 ghost use Rattle.refusal.specs.Questions.{room_question};
 ghost use Rattle.calendar_period.specs.Period.{value_count_of_days};
-ghost use Rattle.calendar_period.specs.Inside.{RealDays};
 ghost use Rattle.call_request.specs.Request.{use_question, carry_question, behind_period};
 
-use calendar_period::CalendarDay;
+use calendar_period::Period;
 use refusal::Refusal;
+pub use request::Request;
 
 // Question 10.
+#[tactic(auto, unfolding(crate::specs::Request::use_question))]
 pub fn use_question(yearly: u32) -> Result<(), Refusal>
     ensures { result ≡ use_question yearly }
 {
@@ -21,6 +24,7 @@ pub fn use_question(yearly: u32) -> Result<(), Refusal>
 }
 
 // Question 11.
+#[tactic(auto, unfolding(crate::specs::Request::carry_question))]
 fn carry_question(carry: u32) -> Result<(), Refusal>
     ensures { result ≡ carry_question carry }
 {
@@ -39,14 +43,13 @@ pub fn behind_period(holidays: &[u32], yearly: u32, carry: u32) -> Result<(), Re
     carry_question(carry)
 }
 
-// Question 12, of an output with `room` entries for the quarter hours of some days. One with 100 for each day is long enough for any
+// Question 12, of an output with `room` entries for the quarter hours of a period. One with 100 for each day is long enough for any
 // days: only where it is shorter are their quarter hours counted.
-pub fn room_question(first: CalendarDay, days: u32, room: usize) -> Result<(), Refusal>
-    requires { RealDays first days }
-    ensures { result ≡ room_question (value_count_of_days days first.date) room }
+pub fn room_question(period: Period, room: usize) -> Result<(), Refusal>
+    ensures { result ≡ room_question (value_count_of_days period.days period.first) room }
 {
-    if days as usize * 100 <= room {
+    if period.days() as usize * 100 <= room {
         return Ok(());
     }
-    refusal::room_question(calendar_period::value_count_of_days(first, days), room)
+    refusal::room_question(period.value_count(), room)
 }

@@ -14,7 +14,7 @@ use Rattle.carry.specs.Carry.{largest_use, largest_carry, figures}
 use Rattle.carry.specs.Energy.{powers}
 use Rattle.series.proofs.DayByDay.{Small, all_small, whole-most, whole-fits}
 use Rattle.call_request.specs.Request.{days_in, basis_of, quarters, series}
-use Rattle.call_request.proofs.Request.{sound, entries-needed}
+use Rattle.call_request.proofs.Sound.{sound, entries-needed}
 use Rattle.call_open.proofs.Given.{answers-request, table-values, opened-for}
 use Rattle.call_request_laws.specs.Fits.{FiguresFit, LongestSeries, LargestTotal}
 

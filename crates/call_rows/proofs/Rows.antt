@@ -27,7 +27,7 @@ use Rattle.day_powers.specs.DayQuarters.{Basis, day_quarters}
 use Rattle.series.specs.Series.{quarters_of_days}
 use Rattle.series.proofs.Series.{quarters-add}
 use Rattle.call_request.specs.Request.{Request, days_in, basis_of, quarters, series, request_check}
-use Rattle.call_request.proofs.Request.{Sound, sound, passes, series-length}
+use Rattle.call_request.proofs.Sound.{Sound, sound, passes, series-length}
 use Rattle.call_expansion.specs.Answered.{Expansion}
 use Rattle.call_expand.specs.Expanding.{expand_check, totals, expansion, lent}
 use Rattle.call_expand.proofs.Expanding.{expanded-in}

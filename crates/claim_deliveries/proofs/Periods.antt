@@ -17,7 +17,7 @@ use Rattle.day_powers.specs.DayQuarters.{day_quarters}
 use Rattle.series.specs.Series.{quarters_of_days}
 use Rattle.series_laws.proofs.Adjoining.{two-periods}
 use Rattle.call_request.specs.Request.{Request, basis_of, quarters, series}
-use Rattle.call_request.proofs.Request.{Sound, passes}
+use Rattle.call_request.proofs.Sound.{Sound, passes}
 use Rattle.call_expand.specs.Expanding.{totals, IsExpanded}
 use Rattle.call_expand.proofs.Expanding.{expanded-in}
 use Rattle.call_deliveries.specs.Deliveries.{of_period, carried_through}

@@ -21,7 +21,7 @@ use Rattle.calendar_days.specs.Days.{day_kind}
 use Rattle.calendar_laws.proofs.Periods.{period-days}
 use Rattle.series_rows.specs.Rows.{Row, row_of}
 use Rattle.call_request.specs.Request.{Request, days_in, series, request_check}
-use Rattle.call_request.proofs.Request.{sound}
+use Rattle.call_request.proofs.Sound.{sound}
 use Rattle.call_request_laws.specs.Fits.{LongestSeries, LargestTotal}
 use Rattle.call_request_laws.proofs.Fits.{longest-series, largest-total}
 use Rattle.call_expansion.specs.declared.ExpansionReport.{ExpansionReport}

@@ -20,7 +20,7 @@ use Rattle.calendar_period.proofs.Period.{Period, period-passed, period-passes}
 use Rattle.calendar_laws.proofs.Periods.{period-days}
 use Rattle.carry.specs.Carry.{largest_use, largest_carry}
 use Rattle.call_request.specs.Request.{Request, series, use_question, carry_question, ahead_of_period, behind_period, request_check}
-use Rattle.call_request.proofs.Request.{Sound, sound}
+use Rattle.call_request.proofs.Sound.{Sound, sound}
 use Rattle.call_expansion.specs.Answered.{reported}
 use Rattle.call_expand.specs.Expanding.{expand_check, totals, expansion}
 use Rattle.claim_successive.specs.Pieces.{PieceOfPeriod, PiecesPass}

@@ -23,7 +23,7 @@ use Rattle.day_powers.specs.DayQuarters.{Basis, basis, day_quarters}
 use Rattle.day_powers.proofs.DayQuarters.{day-rounded, day-undynamised}
 use Rattle.series.proofs.Series.{each-quarter}
 use Rattle.call_request.specs.Request.{Request, days_in, basis_of, quarters}
-use Rattle.call_request.proofs.Request.{Sound}
+use Rattle.call_request.proofs.Sound.{Sound}
 use Rattle.claim_successive.specs.SuccessiveCalls.{Call, carry_after, Common, Successive, run}
 use Rattle.claim_successive.proofs.Whole.{all_quarters}
 

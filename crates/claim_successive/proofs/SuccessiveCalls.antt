@@ -13,7 +13,7 @@ use Rattle.carry.specs.Carry.{largest_carry, figures, last_carry}
 use Rattle.carry.specs.Energy.{Quarter, powers}
 use Rattle.carry.proofs.Carry.{carry-small}
 use Rattle.call_request.specs.Request.{Request, quarters, series}
-use Rattle.call_request.proofs.Request.{Sound}
+use Rattle.call_request.proofs.Sound.{Sound}
 use Rattle.call_expand.specs.Expanding.{expand_check, expansion}
 use Rattle.claim_successive.specs.Reports.{is_accepted}
 use Rattle.claim_successive.specs.SuccessiveCalls.{Call, ByContract, accepted, figures_of, joined_figures, Common, common_of, Successive, IsWhole, SameAsWhole, joined_quarters, NothingJoined, AsDefined, JoinedCalls, SuccessiveCalls}

@@ -13,7 +13,7 @@ use Rattle.day_powers.specs.DayQuarters.{Basis, basis, day_quarters}
 use Rattle.series.specs.Series.{quarters_of_days}
 use Rattle.series_laws.proofs.Adjoining.{two-periods, in_order}
 use Rattle.call_request.specs.Request.{Request, days_in, quarters}
-use Rattle.call_request.proofs.Request.{Sound}
+use Rattle.call_request.proofs.Sound.{Sound}
 use Rattle.call_expand.proofs.Expanding.{request-sound}
 use Rattle.claim_successive.specs.Reports.{is_accepted}
 use Rattle.claim_successive.specs.SuccessiveCalls.{Call, ByContract, accepted, carry_after, Common, common_of, Successive, last_of, joined_quarters}

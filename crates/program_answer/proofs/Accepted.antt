@@ -11,7 +11,7 @@ use Rattle.calendar_period.specs.Inside.{calendar_day}
 use Rattle.file_group.specs.Group.{table_of}
 use Rattle.day_powers.specs.DayQuarters.{basis}
 use Rattle.call_request.specs.Request.{Request, days_in, request_check}
-use Rattle.call_request.proofs.Request.{sound}
+use Rattle.call_request.proofs.Sound.{sound}
 use Rattle.call_expand.specs.Expanding.{totals}
 use Rattle.call_rows.specs.Rows.{rows_of}
 use Rattle.call_rows.proofs.Rows.{totals-by-quarters}

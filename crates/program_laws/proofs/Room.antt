@@ -16,7 +16,7 @@ use Rattle.file_layout.specs.Header.{layout_of}
 use Rattle.file_group.specs.Group.{table_of}
 use Rattle.file_group.proofs.Group.{table-length}
 use Rattle.call_request.specs.Request.{Request, days_in, basis_of, request_check}
-use Rattle.call_request.proofs.Request.{sound}
+use Rattle.call_request.proofs.Sound.{sound}
 use Rattle.call_expand.specs.Expanding.{totals}
 use Rattle.call_rows.specs.Rows.{rows_of}
 use Rattle.text.proofs.Text.{decimal-most}

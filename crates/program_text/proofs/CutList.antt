@@ -8,7 +8,7 @@ use Rattle.big_endian.specs.BigEndian.{longs_from}
 use Rattle.refusal.specs.Questions.{Verdict}
 use Rattle.refusal.specs.Questions.{Pass}
 use Rattle.call_request.specs.Request.{Request, request, request_check}
-use Rattle.call_request.proofs.Request.{sound}
+use Rattle.call_request.proofs.Sound.{sound}
 use Rattle.text.specs.Inside.{Put}
 use Rattle.program_input.specs.declared.Head.{Head}
 use Rattle.program_input.specs.Input.{head_length, list_length, file_start, request_in}

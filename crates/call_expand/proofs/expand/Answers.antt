@@ -13,7 +13,7 @@ use Rattle.file_group.proofs.Group.{values-inside}
 use Rattle.day_powers.specs.DayQuarters.{basis, day_quarters}
 use Rattle.series.specs.Series.{quarters_of_days}
 use Rattle.call_request.specs.Request.{Request, request, quarters, series}
-use Rattle.call_request.proofs.Request.{series-length}
+use Rattle.call_request.proofs.Sound.{series-length}
 use Rattle.call_open.specs.declared.Opening.{Opening}
 use Rattle.call_open.proofs.Given.{opened-refused, OpenedFor, opened-for, room-needed, group-values, same-quarters}
 use Rattle.call_expand.proofs.Expanding.{request-refused, room-refused, expanded}

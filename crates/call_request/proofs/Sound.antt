@@ -9,7 +9,7 @@ use Rattle.refusal.proofs.Questions.{ask-yes, then-pass, ask-passed, then-first,
 use Rattle.calendar_dates.specs.Dates.{date_of}
 use Rattle.calendar_holidays.specs.Holidays.{holidays_question}
 use Rattle.calendar_period.specs.Period.{period_check, value_count_of_days}
-use Rattle.calendar_period.proofs.Period.{Period, period-passed, period-passes}
+use Rattle.calendar_period.proofs.Periods.{Period, period-passed, period-passes}
 use Rattle.file_layout.specs.Header.{layout_of}
 use Rattle.file_group.specs.Group.{check}
 use Rattle.file_group.proofs.Group.{table-length}
