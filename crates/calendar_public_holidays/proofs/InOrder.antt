@@ -1,6 +1,6 @@
 -- Dates put in order: which ones the list has, that it is strictly rising, and that there is only one such list. Assumes nothing.
 use mathlib.Core.Path.{◌≡◌, refl, sym, ◌∙◌, ap, subst}
-use mathlib.Core.Bool.{Bool, true, false, cond, ◌||◌}
+use mathlib.Core.Bool.{or_self_left, Bool, true, false, cond, ◌||◌}
 use mathlib.Core.List.{List, [], ◌∷◌}
 use Prim.Native.Nat.{ℕ, ◌<◌}
 use native.Mathlib.Omega.{arith}
@@ -10,16 +10,12 @@ use Rattle.lists.specs.Lists.{Before, Rising}
 use Rattle.calendar_holidays.specs.Holidays.{listed}
 use Rattle.calendar_public_holidays.specs.YearHolidays.{inserted, in_order}
 
--- two tests in the other order, or one test twice
+-- two tests in the other order
 swap : (a b c : Bool) → (a || (b || c)) ≡ (b || (a || c))
 swap true true c = refl
 swap true false c = refl
 swap false true c = refl
 swap false false c = refl
-
-twice : (a c : Bool) → (a || c) ≡ (a || (a || c))
-twice true c = refl
-twice false c = refl
 
 -- which dates a list has with one put in
 insert-listed : (d date : ℕ) (dates : List ℕ) → listed d (inserted date dates) ≡ (eqb date d || listed d dates)
@@ -31,7 +27,7 @@ insert-listed d date (next ∷ dates) = earlier (ltb date next) (insert-listed d
         listed d (cond b (next ∷ dates) (next ∷ inserted date dates)) ≡ (eqb date d || listed d (next ∷ dates))
     the_same h true e =
         let same : date ≡ next = eqb-true date next e in
-        rw same (twice (eqb next d) (listed d dates))
+        rw same (sym (or_self_left (eqb next d) (listed d dates)))
     the_same h false e = rw h (swap (eqb next d) (eqb date d) (listed d dates))
 
     earlier : (b : Bool) → listed d (inserted date dates) ≡ (eqb date d || listed d dates) →

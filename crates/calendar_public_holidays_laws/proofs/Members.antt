@@ -1,6 +1,6 @@
 -- A date stands in the list exactly when it is one of the chosen days. Assumes nothing.
-use mathlib.Core.Path.{◌≡◌, refl, ◌∙◌}
-use mathlib.Core.Bool.{Bool, true, false, cond, ◌&&◌, ◌||◌}
+use mathlib.Core.Path.{◌≡◌, refl, sym, ◌∙◌}
+use mathlib.Core.Bool.{or_assoc, Bool, true, false, cond, ◌&&◌, ◌||◌}
 use mathlib.Core.List.{List, [], ◌∷◌, ◌++◌, map}
 use Prim.Native.Nat.{ℕ, ◌/◌, ◌%◌}
 use native.Mathlib.Omega.{arith}
@@ -15,16 +15,12 @@ use Rattle.calendar_public_holidays.specs.YearHolidays.{chosen, chosen_days, yea
 use Rattle.calendar_public_holidays.proofs.InOrder.{order-listed}
 use Rattle.calendar_public_holidays_laws.specs.List.{is_chosen}
 
-or_assoc : (a b c : Bool) → (a || (b || c)) ≡ (a || b || c)
-or_assoc true b c = refl
-or_assoc false b c = refl
-
 -- dates of two lists, one behind the other
 pub listed-both : (d : ℕ) (first second : List Date) →
     listed d (map number_of (first ++ second)) ≡ (listed d (map number_of first) || listed d (map number_of second))
 unfolding listed
 listed-both d [] second = refl
-listed-both d (day ∷ first) second = rw (listed-both d first second) (or_assoc (eqb (number_of day) d) (listed d (map number_of first)) (listed d (map number_of second)))
+listed-both d (day ∷ first) second = rw (listed-both d first second) (sym (or_assoc (eqb (number_of day) d) (listed d (map number_of first)) (listed d (map number_of second))))
 
 -- the first of the days that may be chosen, by its bit
 listed-first : (d bits : ℕ) (day : Date) (days : List Date) →

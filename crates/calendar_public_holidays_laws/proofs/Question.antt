@@ -1,7 +1,7 @@
 -- A rising list of at most 400 dates passes question 9: a year's list is one, and so are those of several years one behind the other.
 -- Assumes nothing.
 use mathlib.Core.Path.{◌≡◌, refl}
-use mathlib.Core.Bool.{Bool, true, false, ◌||◌}
+use mathlib.Core.Bool.{or-true, true, ◌||◌}
 use mathlib.Core.List.{List, [], ◌∷◌, ◌++◌}
 use Prim.Native.Nat.{ℕ, zero, suc, ◌+◌, ◌-◌, ◌*◌, ◌≤◌, ◌<◌}
 use native.Mathlib.Omega.{arith}
@@ -42,10 +42,6 @@ in_order dates r zero h = refl
 in_order dates r (suc k) h =
     let one : suc k - 1 ≡ k = omega arith in
     rw (one, lt-ltb (get_or dates k 0) (get_or dates (suc k) 0) (later dates r k h)) (or-true (eqb (suc k) 0))
-  where
-    or-true : (b : Bool) → (b || true) ≡ true
-    or-true true = refl
-    or-true false = refl
 
 pub passes-9 : (dates : List ℕ) → length dates ≤ 400 → Each IsDate dates → Rising dates → holidays_question dates ≡ Pass
 unfolding holiday_question holidays_question

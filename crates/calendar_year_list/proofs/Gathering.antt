@@ -1,6 +1,6 @@
 -- Days gone through in the calendar's order, each date put behind the others unless it is there already. Assumes nothing.
 use mathlib.Core.Path.{◌≡◌, refl, sym, ◌∙◌, ap}
-use mathlib.Core.Bool.{Bool, true, false, not, cond, ◌&&◌, ◌||◌}
+use mathlib.Core.Bool.{or-false, or_assoc, Bool, true, false, not, cond, ◌&&◌, ◌||◌}
 use mathlib.Core.List.{List, [], ◌∷◌, ◌++◌}
 use Prim.Native.Nat.{ℕ, ◌+◌, ◌≤◌, ◌<◌}
 use native.Mathlib.Omega.{arith}
@@ -34,14 +34,6 @@ rising-behind date (x ∷ []) r b h = (omega (arith, b.0, eqb-false x date (neit
 rising-behind date (x ∷ y ∷ dates) r b h = (r.0, rising-behind date (y ∷ dates) r.1 b.1 (neither (eqb x date) (listed date (y ∷ dates)) h).1)
 
 -- which dates a list has with one more
-or-false : (a : Bool) → (a || false) ≡ a
-or-false true = refl
-or-false false = refl
-
-or_assoc : (a b c : Bool) → ((a || b) || c) ≡ (a || (b || c))
-or_assoc true b c = refl
-or_assoc false b c = refl
-
 listed-behind : (d date : ℕ) (dates : List ℕ) → listed d (dates ++ date ∷ []) ≡ (listed d dates || eqb date d)
 unfolding listed
 listed-behind d date [] = or-false (eqb date d)
