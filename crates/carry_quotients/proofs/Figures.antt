@@ -37,11 +37,11 @@ comes yearly powers carry h =
 
 -- a range of at most 96 small powers keeps to the bounds of its growths
 pub growing : {unit factor limit first : ℕ} {powers : List ℕ} → ((i : ℕ) → get_or powers i 0 ≤ 40_000) → length powers ≤ 96 →
-    0 < unit → factor ≤ limit → 40_000 * limit ≤ unit * 4_294_967_295 → first + 96 * (40_000 * limit) < 2 ^ 64 → Growing unit factor powers first
-growing {factor = factor} {limit} {powers = powers} small short positive h most fits =
+    first < unit → factor ≤ limit → 40_000 * limit ≤ unit * 4_294_967_295 → first + 96 * (40_000 * limit) < 2 ^ 64 → Growing unit factor powers first
+growing {factor = factor} {limit} {powers = powers} small short below h most fits =
     let each : 40_000 * factor ≤ 40_000 * limit = omega arith in
     let all : length powers * (40_000 * factor) ≤ 96 * (40_000 * limit) = mul-le-mul short each in
-    record { unit_positive = positive; small = small; growth_small = omega arith; sum_small = omega arith }
+    record { none_yet = below; small = small; growth_small = omega arith; sum_small = omega arith }
 
 -- the growths, stored, and the last sum are the range's figures and what they come to
 pub carried : {powers : List ℕ} {yearly carry s : ℕ} {before after : List ℕ} {r : Carried} → SmallPowers powers yearly carry → length powers ≤ 96 →

@@ -1,6 +1,6 @@
 -- How the quotient of a growing sum grows: its bounds, and the loop that stores the growths by turns. Assumes nothing.
-use Rattle.std.proofs.Common.{◌≡◌, refl, ◌∙◌, ap, List, [], ◌∷◌, ◌++◌, ℕ, suc, ◌+◌, ◌-◌, ◌*◌, ◌/◌, ◌^◌, ◌≤◌, ◌<◌, length, get_or, drop, arith}
-use Rattle.std.proofs.Math.Nat.{div-mul-le_self, lt-div-mul-add, mul-le-mul, mul_comm}
+use Rattle.std.proofs.Common.{◌≡◌, refl, sym, ◌∙◌, ap, List, [], ◌∷◌, ◌++◌, ℕ, suc, ◌+◌, ◌-◌, ◌*◌, ◌/◌, ◌^◌, ◌≤◌, ◌<◌, length, get_or, drop, arith}
+use Rattle.std.proofs.Math.Nat.{div-eq_of_lt, div-mul-le_self, lt-div-mul-add, mul-le-mul, mul_comm}
 use Rattle.std.proofs.Math.ListN.{set, drop_of_length-le}
 use Rattle.std.proofs.lemmas.Nat.{le-div, div_below}
 use Rattle.lists.specs.Lists.{sum}
@@ -30,8 +30,11 @@ pub record Left (unit factor : ℕ) (powers : List ℕ) (first : ℕ) (before ou
   pub small : s ≤ first + at * (40_000 * factor)
 
 module _ {unit factor : ℕ} {powers : List ℕ} {first : ℕ} (g : Growing unit factor powers first) where
-  pub start : (before : List ℕ) → Left unit factor powers first before before 0 first (first / unit)
-  start before = record { quotient = refl; stored = nothing_stored; summed = refl; small = omega arith }
+  positive : 0 < unit
+  positive = let above = g.none_yet in omega arith
+
+  pub start : (before : List ℕ) → Left unit factor powers first before before 0 first 0
+  start before = record { quotient = sym (div-eq_of_lt g.none_yet); stored = nothing_stored; summed = refl; small = omega arith }
 
   module _ {before out : List ℕ} {at s total : ℕ} (l : Left unit factor powers first before out at s total) where
     added : get_or powers at 0 * factor ≤ 40_000 * factor
@@ -43,12 +46,12 @@ module _ {unit factor : ℕ} {powers : List ℕ} {first : ℕ} (g : Growing unit
         omega (arith, added, all, l.small, g.sum_small)
 
     pub falls-not : total ≤ (s + get_or powers at 0 * factor) / unit
-    falls-not = omega (arith, l.quotient, grows unit s (get_or powers at 0 * factor) g.unit_positive)
+    falls-not = omega (arith, l.quotient, grows unit s (get_or powers at 0 * factor) positive)
 
     pub growth : (s + get_or powers at 0 * factor) / unit - total ≤ 4_294_967_295
     growth =
         let few : get_or powers at 0 * factor ≤ unit * 4_294_967_295 = omega (arith, added, g.growth_small) in
-        omega (arith, l.quotient, growth-small unit s (get_or powers at 0 * factor) 4_294_967_295 g.unit_positive few)
+        omega (arith, l.quotient, growth-small unit s (get_or powers at 0 * factor) 4_294_967_295 positive few)
 
     pub turn : at < length powers →
         Left unit factor powers first before (set out at ((s + get_or powers at 0 * factor) / unit - total)) (at + 1)

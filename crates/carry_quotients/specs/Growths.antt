@@ -7,9 +7,9 @@ growths unit factor [] sum = []
 growths unit factor (power ∷ powers) sum =
     ((sum + power * factor) / unit - sum / unit) ∷ growths unit factor powers (sum + power * factor)
 
--- what is asked of them: powers of at most 4,000 W, each growth in 32 bits, and the last sum in 64
+-- what is asked of them: a first sum whose quotient is 0, powers of at most 4,000 W, each growth in 32 bits, and the last sum in 64
 pub record Growing (unit factor : ℕ) (powers : List ℕ) (first : ℕ) : Type 0 where
-  pub unit_positive : 0 < unit
+  pub none_yet : first < unit
   pub small : (i : ℕ) → get_or powers i 0 ≤ 40_000
   pub growth_small : 40_000 * factor ≤ unit * 4_294_967_295
   pub sum_small : first + length powers * (40_000 * factor) < 2 ^ 64

@@ -14,7 +14,7 @@ pub struct Carried {
 }
 
 // Adds up the powers, each times `factor`, from `first` on, and stores in front of `out` what each adds to the sum's quotient by
-// UNIT. Answers the last sum. Only the addition waits for the turn before.
+// UNIT, which is above `first`. Answers the last sum. Only the addition waits for the turn before.
 pub fn store_growths<const UNIT: u64>(
     powers: &[u32],
     factor: u64,
@@ -27,7 +27,7 @@ pub fn store_growths<const UNIT: u64>(
     ensures growths { out.new ≡ growths UNIT factor powers.now first ++ drop (length powers.now) out.old }
 {
     let mut sum = first;
-    let mut total = first / UNIT;
+    let mut total: u64 = 0;
     for (i, power) in powers.iter().enumerate() {
         sum += *power as u64 * factor;
         let next = sum / UNIT;

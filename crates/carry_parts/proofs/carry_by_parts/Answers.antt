@@ -9,7 +9,7 @@ use Rattle.carry_parts.proofs.carry_by_parts.Goals as goal
 pub store_growths-sum-requires-clause-growing : goal.store_growths-sum-requires-clause-growing
 store_growths-sum-requires-clause-growing c =
     let small = c.requires.small_powers in
-    growing {limit = 3_435_973_836_800} small.small c.requires.in_day (omega arith) (omega arith) (omega arith) (omega (arith, small.in_range))
+    growing {limit = 3_435_973_836_800} small.small c.requires.in_day (omega (arith, small.in_range)) (omega arith) (omega arith) (omega (arith, small.in_range))
 
 pub returns : goal.returns
 returns c =

@@ -7,7 +7,7 @@ use Rattle.carry_quotients.proofs.carry_by_quotients.Goals as goal
 pub store_growths-sum-requires-clause-growing : goal.store_growths-sum-requires-clause-growing
 store_growths-sum-requires-clause-growing c =
     let small = c.requires.small_powers in
-    growing small.small c.requires.in_day (omega arith) small.yearly_small (omega arith) (omega (arith, small.in_range))
+    growing small.small c.requires.in_day (omega (arith, small.in_range)) small.yearly_small (omega arith) (omega (arith, small.in_range))
 
 pub returns : goal.returns
 returns c =
