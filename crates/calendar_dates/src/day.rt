@@ -70,6 +70,7 @@ impl CalendarDay {
     }
 
     // 1 Monday to 7 Sunday.
+    // Kept: a number and no enum, since it is counted on modulo 7 and the day enquiry reports it as it is.
     pub fn weekday(self) -> u32
         ensures { result ≡ weekday_of self }
     {

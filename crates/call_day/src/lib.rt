@@ -54,6 +54,7 @@ pub fn enquire(date: u32, holidays: &[u32]) -> Result<Day, Refusal>
 }
 
 // 1 winter, 2 summer, 3 transition: the order of the tables in the profile file.
+// Kept: no From, since Season and u32 are both of other crates; the digits are this report's own. So it is with the day types.
 pub fn season_digit(s: Season) -> u32
     ensures { result ≡ season_digit s }
 {

@@ -6,6 +6,7 @@ use call_day::DayReport;
 use std::fmt;
 
 // A day's figures, in the order of the enquiry's report: number and place are 0 when it is not refused.
+// Kept: season and day type are numbers here, since the second calendar has no type of the first one's crates.
 #[derive(Clone, Copy, PartialEq, Eq)]
 pub struct Figures {
     pub number: u32,
