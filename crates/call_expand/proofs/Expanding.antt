@@ -21,20 +21,20 @@ use Rattle.call_expansion.specs.Answered.{reported}
 use Rattle.call_expand.specs.Expanding.{expand_check, totals, expansion, output_after, lent, IsExpanded, Expands}
 
 module _ (q : Request) where
-  refused : {r : Refusal} → expand_check q ≡ Err r → Expands q (Err r) q.output
+  refused : {r : Refusal} {answer : Expansion} → answer ≡ Err r → expand_check q ≡ Err r → Expands q answer q.output
   unfolding expansion output_after
-  refused e = record { answers = rw e; reports = rw e; leaves = rw e }
+  refused a e = rw a (record { answers = rw e; reports = rw e; leaves = rw e })
 
   -- by questions 1 to 11
-  pub request-refused : {r : Refusal} → request_check q ≡ Err r → Expands q (Err r) q.output
+  pub request-refused : {r : Refusal} {answer : Expansion} → answer ≡ Err r → request_check q ≡ Err r → Expands q answer q.output
   unfolding expand_check
-  request-refused e = refused (refused-first _ e)
+  request-refused a e = refused a (refused-first _ e)
 
   -- by question 12
-  pub room-refused : {r : Refusal} → request_check q ≡ Pass → room_question (length (series q)) (length q.output) ≡ Err r →
-      Expands q (Err r) q.output
+  pub room-refused : {r : Refusal} {answer : Expansion} → answer ≡ Err r → request_check q ≡ Pass →
+      room_question (length (series q)) (length q.output) ≡ Err r → Expands q answer q.output
   unfolding expand_check
-  room-refused p e = refused (then-pass _ p ∙ e)
+  room-refused a p e = refused a (then-pass _ p ∙ e)
 
   -- by none
   pub expanded : {t : Totals} {after : List ℕ} → request_check q ≡ Pass → room_question (length (series q)) (length q.output) ≡ Pass →

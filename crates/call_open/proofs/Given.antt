@@ -4,6 +4,7 @@ use lib.Dec.{ltb}
 use lib.ListN.{get_or-eq_default}
 use borrow.Author.Tests.{ltb-true, ltb-false}
 use Rattle.big_endian.specs.Inside.{words_of}
+use Rattle.refusal.specs.declared.Refusal.{Refusal}
 use Rattle.refusal.specs.Questions.{Verdict, Pass, answered, room_question}
 use Rattle.calendar_dates.specs.Dates.{date_of}
 use Rattle.calendar_period.specs.Period.{period_days, value_count_of_days}
@@ -20,6 +21,10 @@ use Rattle.call_open.specs.declared.Opening.{Opening}
 use Rattle.call_open.specs.Inside.{opening}
 
 -- what an answer tells of the questions asked
+pub opened-refused : (v : Verdict) (given : Opening) {r : Refusal} → Err r ≡ answered v given → v ≡ Err r
+opened-refused (Ok _) given h = let z : ◌≡◌ {A = ℕ} 0 1 = cc in absurd (omega arith)
+opened-refused (Err r) given h = cc
+
 opened-request : (v : Verdict) {o given : Opening} → Ok o ≡ answered v given → (v ≡ Pass) × (o ≡ given)
 opened-request (Ok _) h = (refl, cc)
 opened-request (Err r) h = let z : ◌≡◌ {A = ℕ} 0 1 = cc in absurd (omega arith)
