@@ -1,27 +1,15 @@
 // Writing's question 5, asked of the lent values before anything is written, and shown to be the reader's of the file to be written.
 #![tactic(auto)]
 
-ghost use Rattle.std.specs.Prelude.{◌≡◌, List, ℕ, ◌*◌, ◌≤◌, leb, length};
+ghost use Rattle.std.specs.Prelude.{◌≡◌, List, ℕ, ◌*◌, ◌≤◌, length};
 ghost use Rattle.big_endian.specs.BigEndian.{words_from};
-ghost use Rattle.refusal.specs.declared.Refusal.TheVariants.{BadValue};
-ghost use Rattle.refusal.specs.Questions.{ask, ask_each};
+ghost use Rattle.refusal.specs.Questions.{ask_each};
 ghost use Rattle.file_layout.specs.Header.{layout_of};
 ghost use Rattle.file_values.specs.Values.{value_question, values_question};
 ghost use Rattle.file_written.specs.Written.{written};
 
-use file_layout::HEADER_LENGTH;
-use file_written::{PROFILE_LENGTH, PROFILE_VALUES};
+use file_layout::{HEADER_LENGTH, PROFILE_LENGTH, PROFILE_VALUES};
 use refusal::Refusal;
-
-// Question 5, of a value that is to stand at `at`.
-fn value_question(value: u16, at: usize) -> Result<(), Refusal>
-    ensures { result ≡ ask (leb value 20_000) (BadValue at) }
-{
-    if 20_000 < value {
-        return Err(Refusal::BadValue(at));
-    }
-    Ok(())
-}
 
 // Question 5, of a profile's values, in a file that has them from `at` on.
 fn profile_values_question(values: &[u16], at: usize) -> Result<(), Refusal>
@@ -29,14 +17,8 @@ fn profile_values_question(values: &[u16], at: usize) -> Result<(), Refusal>
     ensures { (file : List ℕ) → words_from file (length values.now) at ≡ values.now →
         result ≡ ask_each (value_question file) 2 (length values.now) at }
 {
-    let mut left = values.len();
-    let mut i: usize = 0;
-    let mut at = at;
-    while 0 < left {
-        value_question(values[i], at)?;
-        i += 1;
-        at += 2;
-        left -= 1;
+    for (i, value) in values.iter().enumerate() {
+        file_values::value_question(*value, at + i * 2)?;
     }
     Ok(())
 }
@@ -47,15 +29,10 @@ pub fn values_question(values: &[u16], count: usize) -> Result<(), Refusal>
     ensures { (codes : List ℕ) → length codes ≡ count →
         result ≡ values_question (layout_of (written codes values.now)) (written codes values.now) }
 {
-    let mut left = count;
-    let mut from: usize = 0;
-    let mut at = HEADER_LENGTH;
-    while 0 < left {
-        let end = from + PROFILE_VALUES;
-        profile_values_question(&values[from..end], at + 1)?;
-        from = end;
-        at += PROFILE_LENGTH;
-        left -= 1;
+    for k in 0..count {
+        let from = k * PROFILE_VALUES;
+        let part = &values[from..from + PROFILE_VALUES];
+        profile_values_question(part, HEADER_LENGTH + k * PROFILE_LENGTH + 1)?;
     }
     Ok(())
 }

@@ -1,41 +1,24 @@
--- `file_write_values::values_question` meets its contract. The invariant: the questions left to ask are the reader's of the
--- file to be written.
-use Prim.Native.Nat.{◌-◌}
-use native.Mathlib.Omega.{arith}
-use lib.ListN.{length}
-use borrow.Author.Rules.{rules}
-use Rattle.refusal.proofs.Questions.{refused-here, passed_here, all-passed}
+-- `file_write_values::values_question` meets its contract: what is asked of a part is its profile's question in the file.
+use Rattle.std.proofs.Common.{◌∙◌, ◌*◌, arith, rules}
+use Rattle.refusal.proofs.Questions.{asked-refuses, asked_more, asked_all}
 use Rattle.file_written.proofs.Written.{part_of}
 use Rattle.file_write_values.proofs.Values.{values-each, part-asked}
 use Rattle.file_write_values.proofs.values_question.Goals as goal
 
-pub loop-left-init : goal.loop-left-init
-loop-left-init c = (omega arith, omega arith, omega arith, λ codes counted. rw (← counted) (values-each codes _))
-
-pub returns-in_default : goal.returns-in_default
-returns-in_default c codes counted =
-    let l = c.loop-left in
+pub returns-in_err-profile_values_question : goal.returns-in_err-profile_values_question
+returns-in_err-profile_values_question c codes counted =
+    let k = c.loop-k.k in
     let values = c.args.values.now in
-    let reader =
-    part-asked codes values (omega arith) (length codes - l.left) (omega arith) l.from l.at (omega arith) (omega arith) _
-    (part_of l.from 864 values) c.profile_values_question-v.ensures
-    in
-    refused-here (l.invariant.3 codes counted) (omega arith) reader (search rules)
+    let asked = part-asked codes values (omega arith) k (omega arith) _ (part_of (k * 864) 864 values) c.profile_values_question.ensures in
+    asked-refuses (c.loop-k.invariant codes counted) (omega arith) asked c.in_err-profile_values_question.was (search rules)
+    ∙ rw (← counted) (values-each codes values)
 
-pub loop-left-preserved : goal.loop-left-preserved
-loop-left-preserved c =
-    let l = c.loop-left in
-    let values = c.args.values.now in (
-      omega arith,
-      omega arith,
-      omega arith,
-      λ codes counted.
-          let reader =
-          part-asked codes values (omega arith) (length codes - l.left) (omega arith) l.from l.at (omega arith) (omega arith) _
-          (part_of l.from 864 values) c.profile_values_question-v.ensures
-          in
-          passed_here (l.invariant.3 codes counted) (omega arith) reader c.in-Pass.is,
-    )
+pub loop-k-preserved : goal.loop-k-preserved
+loop-k-preserved c codes counted =
+    let k = c.loop-k.k in
+    let values = c.args.values.now in
+    let asked = part-asked codes values (omega arith) k (omega arith) _ (part_of (k * 864) 864 values) c.profile_values_question.ensures in
+    asked_more (c.loop-k.invariant codes counted) (omega arith) asked c.in_ok-profile_values_question.was
 
 pub returns : goal.returns
-returns c codes counted = all-passed (c.loop-left.invariant.3 codes counted) (omega arith)
+returns c codes counted = asked_all (c.loop-k.invariant codes counted) (omega arith) ∙ rw (← counted) (values-each codes c.args.values.now)
