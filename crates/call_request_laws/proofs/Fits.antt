@@ -8,14 +8,16 @@ use native.Mathlib.Nat.{mul-le-mul}
 use native.Mathlib.Omega.{arith}
 use Rattle.lists.specs.Lists.{Each}
 use Rattle.calendar_dates.specs.Dates.{date_of}
-use Rattle.calendar_period.specs.Inside.{calendar_day}
-use Rattle.calendar_period.proofs.Period.{values-small}
+use Rattle.calendar_dates.specs.Dates.{AllDates}
+use Rattle.calendar_period.proofs.Periods.{values-small, all-between}
+use Rattle.file_group.proofs.Group.{check-passed}
 use Rattle.carry.specs.Carry.{largest_use, largest_carry, figures}
 use Rattle.carry.specs.Energy.{powers}
-use Rattle.series.proofs.DayByDay.{Small, all_small, whole-most, whole-fits}
-use Rattle.call_request.specs.Request.{days_in, basis_of, quarters, series}
-use Rattle.call_request.proofs.Sound.{sound, entries-needed}
-use Rattle.call_open.proofs.Given.{answers-request, table-values, opened-for}
+use Rattle.series.specs.Inside.{GroupValues}
+use Rattle.series.proofs.DayByDay.{Small, all_small, Fits, whole-fits}
+use Rattle.call_request.specs.Request.{Request, days_in, basis_of, quarters, series}
+use Rattle.call_request.proofs.Sound.{Sound, sound, entries-needed}
+use Rattle.call_open.proofs.Given.{table-values}
 use Rattle.call_request_laws.specs.Fits.{FiguresFit, LongestSeries, LargestTotal}
 
 -- small powers make small figures
@@ -26,15 +28,22 @@ figures-small yearly (p ∷ ps) carry a b s =
     let product : p * yearly ≤ 40_000 * 10 ^ 9 = mul-le-mul s.0 a in
     (omega arith, figures-small yearly ps ((p * yearly + carry) % 40_000) a (omega arith) s.1)
 
+-- what an accepted request's figures come to
+accepted : (q : Request) → Sound q → GroupValues (basis_of q).values × AllDates (days_in q) (date_of q.first) × Fits q.yearly q.carry (powers (quarters q))
+accepted q s =
+    let p = s.period in
+    let values = table-values q.file q.group (check-passed q.file q.group s.file) in
+    let real = all-between (date_of q.first) (date_of q.last) p.dates-first p.dates-last p.ordered in
+    (values, real, whole-fits (basis_of q) values (days_in q) (date_of q.first) (record { yearly_small = s.yearly; carry_small = s.carry }) p.short real)
+
 pub figures-fit : FiguresFit
 unfolding FiguresFit series
 figures-fit q h =
-    let opened = opened-for q (answers-request h refl) in
-    let s = opened.sound in
-    let values = table-values q.file q.group opened.found.checked in
-    let real = opened.real in (
-      figures-small q.yearly (powers (quarters q)) q.carry s.yearly s.carry (all_small (basis_of q) values (days_in q) (date_of q.first) real.all),
-      whole-fits (basis_of q) values {first = calendar_day (date_of q.first)} (record { yearly_small = s.yearly; carry_small = s.carry }) real,
+    let s = sound q h in
+    let (values, real, fits) = accepted q s in
+    let most = fits.most in (
+      figures-small q.yearly (powers (quarters q)) q.carry s.yearly s.carry (all_small (basis_of q) values (days_in q) (date_of q.first) real),
+      omega arith,
     )
 
 pub longest-series : LongestSeries
@@ -44,7 +53,5 @@ longest-series q h = omega (arith, entries-needed q, values-small (days_in q) (d
 pub largest-total : LargestTotal
 unfolding LargestTotal series
 largest-total q h =
-    let opened = opened-for q (answers-request h refl) in
-    let s = opened.sound in
-    whole-most (basis_of q) (table-values q.file q.group opened.found.checked) {first = calendar_day (date_of q.first)}
-    (record { yearly_small = s.yearly; carry_small = s.carry }) opened.real
+    let (values, real, fits) = accepted q (sound q h) in
+    fits.most

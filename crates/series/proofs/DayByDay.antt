@@ -79,26 +79,26 @@ pub record SoFar (b : Basis) (yearly carry : ℕ) (whole done : List ℕ) (left 
   pub range : InRange yearly carry
   pub fits : Fits yearly carry whole
 
+-- no power above 40,000
+abbrev pub Small : List ℕ → Type 0
+Small xs = Each (λ (p : ℕ). p ≤ 40_000) xs
+
+small-each : (xs : List ℕ) → ((i : ℕ) → get_or xs i 0 ≤ 40_000) → Small xs
+small-each [] h = tt
+small-each (x ∷ xs) h = (h 0, small-each xs (λ i. h (suc i)))
+
+sum-small : (xs : List ℕ) → Small xs → sum xs ≤ 40_000 * length xs
+unfolding sum
+sum-small [] h = omega arith
+sum-small (x ∷ xs) h = omega (arith, h.0, sum-small xs h.1)
+
 module _ (b : Basis) (sound : GroupValues b.values) where
-  -- no power above 40,000
-  abbrev Small : List ℕ → Type 0
-  Small xs = Each (λ (p : ℕ). p ≤ 40_000) xs
-
-  small-each : (xs : List ℕ) → ((i : ℕ) → get_or xs i 0 ≤ 40_000) → Small xs
-  small-each [] h = tt
-  small-each (x ∷ xs) h = (h 0, small-each xs (λ i. h (suc i)))
-
-  sum-small : (xs : List ℕ) → Small xs → sum xs ≤ 40_000 * length xs
-  unfolding sum
-  sum-small [] h = omega arith
-  sum-small (x ∷ xs) h = omega (arith, h.0, sum-small xs h.1)
-
   day-small : (d : Date) → is_date d ≡ true → Small (day_powers b d)
   day-small d h =
       rw (day-powers-positions b d)
       (each-position _ (clock d) _ (small-each (powers_before b d) (day-powers-small b sound d h)))
 
-  all_small : (n : ℕ) (d : Date) → AllDates n d → Small (powers_from b n d)
+  pub all_small : (n : ℕ) (d : Date) → AllDates n d → Small (powers_from b n d)
   unfolding quarters_of_days
   all_small zero d h = tt
   all_small (suc n) d h =
