@@ -39,7 +39,7 @@ use Rattle.call_rows.specs.Rows.{rows_of, date_of_day, carry_after_days, on_day,
 
 module _ (q : Request) (output : List ℕ) where
   refusal : (r : Refusal) → request_check q ≡ Err r → expansion (lent q output) ≡ Err r
-  unfolding expansion expand_check ◌then◌
+  unfolding expansion expand_check
   refusal r h = ap (λ v. answered (v then room_question (length (series (lent q output))) (length output)) (totals (lent q output))) h
 
 -- totals by the request's quarter hours are those of its series

@@ -6,7 +6,7 @@ use Rattle.calendar_reading_periods.specs.ReadingPeriods.{readings_question, fir
 use Rattle.claim_deliveries.specs.WorkedPeriods.{WorkedPeriods}
 
 pub worked-periods : WorkedPeriods
-unfolding readings_question first_date_question first_dates_question end_of reading_periods ask ◌then◌ ask_each leap_days month_length is_date days_of_months day_of_year days_of_years day_number next_day days_later
+unfolding readings_question first_date_question first_dates_question end_of reading_periods ask_each leap_days month_length is_date days_of_months day_of_year days_of_years day_number next_day days_later
 worked-periods =
     record {
       days = refl;

@@ -24,12 +24,10 @@ pub passed : NotByNine Pass
 passed h = absurd (omega (arith, h))
 
 one : (b : Bool) (r : Refusal) → (refusal_number r ≡ 9 → ⊥) → NotByNine (ask b r)
-unfolding ask
 one true r n = passed
 one false r n = n
 
 pub both : (v next : Verdict) → NotByNine v → NotByNine next → NotByNine (v then next)
-unfolding ◌then◌
 both (Ok _) next a b = b
 both (Err r) next a b = a
 
@@ -74,7 +72,6 @@ unfolding use_question carry_question
 use-and-carry yearly carry = both _ _ (one _ BadUse (λ h. absurd (omega (arith, h)))) (one _ BadCarry (λ h. absurd (omega (arith, h))))
 
 pub output : (needed room : ℕ) → NotByNine (room_question needed room)
-unfolding room_question
 output needed room = one _ (ShortOutput needed) (λ h. absurd (omega (arith, h)))
 
 -- question 13

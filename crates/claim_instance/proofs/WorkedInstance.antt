@@ -46,7 +46,7 @@ small-values file (suc n) at e =
 
 -- the file passes questions 1 to 6
 passes : check listing_file 1 ≡ Pass
-unfolding ask ◌then◌ ask_each layout_of mark_question version_question length_question header_check code_question profile_values_question file_check offset_among group_question
+unfolding ask_each layout_of mark_question version_question length_question header_check code_question profile_values_question file_check offset_among group_question
 passes = then-pass _ (then-pass Pass (small-values listing_file 864 7 refl))
 
 -- so the other questions decide
@@ -56,14 +56,14 @@ after_file q =
     then room_question (length (series q)) (length q.output)
 
 passed-file : (q : Request) → check q.file q.group ≡ Pass → expansion q ≡ answered (after_file q) (totals q)
-unfolding expansion expand_check ◌then◌
+unfolding expansion expand_check
 passed-file q h = rw h
 
 by-contract : (q : Request) → ByContract (call_for q)
 by-contract q = record { answers = refl; leaves = refl }
 
 pub worked-instance : WorkedInstance
-unfolding ask ◌then◌ ask_each room_question layout_of offset_among each_from X F Q leap_days month_length is_date days_of_months day_of_year days_of_years day_number weekday_of next_day from to season listed is_eve day_type_when last_sunday clock positions date_question holidays_question days_of period_question day_values day_quarters quarters_of_days series figures last_carry sum use_question carry_question accepted Successive SuccessiveCalls
+unfolding ask_each layout_of offset_among each_from X F Q leap_days month_length is_date days_of_months day_of_year days_of_years day_number weekday_of next_day from to season listed is_eve day_type_when last_sunday clock positions date_question holidays_question days_of period_question day_values day_quarters quarters_of_days series figures last_carry sum use_question carry_question accepted Successive SuccessiveCalls
 worked-instance =
     let first = passed-file saturday passes in
     let refused = passed-file between passes in

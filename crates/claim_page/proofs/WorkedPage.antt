@@ -11,5 +11,5 @@ use Rattle.call_page.specs.Page.{page_question}
 use Rattle.claim_page.specs.WorkedPage.{WorkedPage}
 
 pub worked-page : WorkedPage
-unfolding page_line right_aligned digits page_question ask leap_days month_length days_of_months day_of_year days_of_years day_number weekday_of from to season listed is_eve day_type_when
+unfolding page_line right_aligned digits page_question leap_days month_length days_of_months day_of_year days_of_years day_number weekday_of from to season listed is_eve day_type_when
 worked-page = record { saturday = refl; sunday = refl; last = refl; byte_short = refl; just_enough = refl }

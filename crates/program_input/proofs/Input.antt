@@ -58,7 +58,7 @@ module _ (holidays : List ℕ) where
 
   -- the n entries from `at` on, k of them before index 400
   from-alike : (k n at : ℕ) → at + k ≡ 400 → ask_each (holiday_question (take 401 holidays)) 1 (min (suc k) n) at ≡ ask_each (holiday_question holidays) 1 n at
-  unfolding ask_each ◌then◌
+  unfolding ask_each
   from-alike k zero at h = rw (min-zero (suc k))
   from-alike zero (suc n) at h =
       rw (suc-min-suc zero n, at-fault (take 401 holidays) at (omega arith), at-fault holidays at (omega arith))
