@@ -1,6 +1,5 @@
 -- What questions that passed tell: the laws of asking, the other way round, and by name what an accepted writing has.
 -- Assumes nothing.
-use Rattle.std.specs.Prelude.{Err}
 use mathlib.Core.Path.{◌≡◌}
 use mathlib.Core.List.{List}
 use Prim.Native.Nat.{ℕ, ◌*◌, ◌≤◌}
@@ -8,7 +7,7 @@ use lib.ListN.{length}
 use borrow.Author.Tests.{leb-true, eqb-true, le-leb, eq-eqb}
 use Rattle.refusal.specs.declared.Refusal.TheVariants.{WrongLength}
 use Rattle.refusal.specs.Questions.{Pass}
-use Rattle.refusal.proofs.Questions.{ask-yes, refuses, ask-passed, then-first, then_next, room-passed, both}
+use Rattle.refusal.proofs.Questions.{ask-yes, ask-passed, then-first, then_next, room-passed, both}
 use Rattle.file_layout.specs.Header.{layout_of}
 use Rattle.file_values.specs.Values.{values_question}
 use Rattle.file_check.specs.Check.{codes_question}
@@ -32,10 +31,6 @@ pub amount-passes : (codes values : List ℕ) → Amounts codes values → amoun
 unfolding amount_question
 amount-passes codes values a =
     ask-yes WrongLength (rw (le-leb _ _ a.some, le-leb _ _ a.most, eq-eqb _ _ a.each))
-
-pub amount-refused : (codes values : List ℕ) → (Amounts codes values → ⊥) → Err WrongLength ≡ amount_question codes values
-unfolding amount_question
-amount-refused codes values never = refuses _ WrongLength (λ h. never (amounts codes values h))
 
 -- all of writing's questions passed
 pub record Writable (codes values : List ℕ) (room : ℕ) : Type 0 where

@@ -1,18 +1,14 @@
 -- Writing's question 4, asked of the lent codes, is that of the file to be written. Assumes nothing.
-use mathlib.Core.Path.{◌≡◌, refl, sym, ◌∙◌}
-use mathlib.Core.Bool.{◌&&◌, ◌||◌}
-use mathlib.Core.List.{List}
-use Prim.Native.Nat.{ℕ, zero, suc, ◌+◌, ◌-◌, ◌*◌, ◌<◌}
-use native.Mathlib.Omega.{arith}
-use lib.Dec.{leb, ltb, eqb}
-use lib.ListN.{length, get_or}
-use Rattle.big_endian.specs.BigEndian.{byte_at, bytes_of}
-use Rattle.refusal.specs.Questions.{Verdict}
+use Rattle.std.proofs.Common.{◌≡◌, refl, ℕ, zero, suc, ◌+◌, ◌*◌, ◌<◌, ◌&&◌, List, length, get_or, Option, Some, None, leb, arith}
+use native.Mathlib.Numerals.{add-one}
+use Rattle.big_endian.specs.BigEndian.{bytes_of}
 use Rattle.refusal.specs.declared.Refusal.TheVariants.{BadCode}
-use Rattle.refusal.specs.Questions.{ask}
-use Rattle.refusal.proofs.Questions.{Asking}
+use Rattle.refusal.specs.Questions.{Verdict, ask, ask_each}
 use Rattle.file_layout.specs.Header.{layout_of}
+use Rattle.file_layout.proofs.Header.{sound}
 use Rattle.file_check.specs.Check.{code_question, codes_question}
+use Rattle.file_check.specs.Inside.{is_above}
+use Rattle.file_check.proofs.Asked.{code_before, code-asked}
 use Rattle.file_written.specs.Written.{written}
 use Rattle.file_written.proofs.Written.{code_at}
 
@@ -22,21 +18,29 @@ file_code codes values at = code_question (layout_of (written codes values)) (wr
 
 -- it is asked of as many profiles as there are codes
 pub codes-each : (codes values : List ℕ) →
-    Asking (file_code codes values) 1729 (length codes) 6 (codes_question (layout_of (written codes values)) (written codes values))
+    ask_each (file_code codes values) 1729 (length codes) 6 ≡ codes_question (layout_of (written codes values)) (written codes values)
 unfolding layout_of written bytes_of
-codes-each codes values = record { asked = refl }
+codes-each codes values = refl
 
--- question 4 of code i, after the code before it
-pub code-asked : (codes values : List ℕ) → length values ≡ length codes * 864 → (i before : ℕ) → i < length codes →
-    (0 < i → before ≡ get_or codes (i - 1) 0) → (at : ℕ) → at ≡ 6 + i * 1729 →
-    ask (leb (get_or codes i 0) 10 && (eqb at 6 || ltb before (get_or codes i 0))) (BadCode at)
-    ≡ code_question (layout_of (written codes values)) (written codes values) at
-unfolding code_question layout_of
-code-asked codes values each zero before h b at e = rw (e, code_at codes values each zero h)
-code-asked codes values each (suc i) before h b at e =
-    let own : byte_at (written codes values) at ≡ get_or codes (suc i) 0 = rw e (code_at codes values each (suc i) h) in
-    let back : at - 1729 ≡ 6 + i * 1729 = omega arith in
-    let first : suc i - 1 ≡ i = omega arith in
-    let other : byte_at (written codes values) (at - 1729) ≡ before =
-    rw back (code_at codes values each i (omega arith) ∙ sym (rw first at (b (omega arith)))) in
-    rw (own, other)
+-- the code before code i
+abbrev pub before_code : List ℕ → ℕ → Option ℕ
+before_code codes zero = None
+before_code codes (suc i) = Some (get_or codes i 0)
+
+pub before_next : (codes : List ℕ) (i : ℕ) → before_code codes (i + 1) ≡ Some (get_or codes i 0)
+before_next codes i = rw (add-one i)
+
+module _ (codes values : List ℕ) (each : length values ≡ length codes * 864) where
+  before_same : (i : ℕ) → i < length codes → code_before (layout_of (written codes values)) (written codes values) i ≡ before_code codes i
+  unfolding layout_of
+  before_same zero h = refl
+  before_same (suc i) h = rw (code_at codes values each i (omega arith))
+
+  -- question 4 of code i, after the code before it
+  pub written-code : (i : ℕ) → i < length codes →
+      ask (leb (get_or codes i 0) 10 && is_above (before_code codes i) (get_or codes i 0)) (BadCode (6 + i * 1729)) ≡ file_code codes values (6 + i * 1729)
+  unfolding layout_of
+  written-code i h =
+      let file = written codes values in
+      let asked = code-asked (layout_of file) file i (sound file) in
+      rw (code_at codes values each i h, before_same i h) at asked

@@ -1,33 +1,26 @@
--- `file_write_check::codes_question` meets its contract. The invariant: the questions left to ask are the reader's of the
--- file to be written.
-use mathlib.Core.Path.{◌≡◌, ◌∙◌}
-use Prim.Native.Nat.{◌+◌, ◌-◌}
-use native.Mathlib.Omega.{arith}
-use borrow.Author.Rules.{rules}
-use Rattle.refusal.proofs.Questions.{refused-here, passed_here, all-passed}
-use Rattle.file_write_check.proofs.WriteCheck.{codes-each, code-asked}
+-- `file_write_check::codes_question` meets its contract: what is asked of a code is that code's question in the file.
+use Rattle.std.proofs.Common.{◌∙◌, sym, arith, rules}
+use Rattle.refusal.proofs.Questions.{asked-refuses, asked_more, asked_all}
+use Rattle.file_write_check.proofs.WriteCheck.{codes-each, before_next, written-code}
 use Rattle.file_write_check.proofs.codes_question.Goals as goal
 
-pub loop-left-init : goal.loop-left-init
-loop-left-init c = (omega arith, omega arith, λ h. absurd (omega arith), λ values each. codes-each c.args.codes.now values)
+pub returns-in_err-code_question : goal.returns-in_err-code_question
+returns-in_err-code_question c values each =
+    let codes = c.args.codes.now in
+    let l = c.loop-i in
+    let asked = rw l.invariant.1 at c.code_question.ensures in
+    asked-refuses (l.invariant.0 values each) (omega arith) (asked ∙ written-code codes values each l.i (omega arith)) c.in_err-code_question.was (search rules)
+    ∙ codes-each codes values
 
-pub returns-in_default : goal.returns-in_default
-returns-in_default c values each =
-    let l = c.loop-left in
-    let reader = c.code_question-v.ensures ∙ code-asked c.args.codes.now values each l.i l.before (omega arith) l.invariant.2 l.at l.invariant.1 in
-    refused-here (l.invariant.3 values each) (omega arith) reader (search rules)
-
-pub loop-left-preserved : goal.loop-left-preserved
-loop-left-preserved c =
-    let l = c.loop-left in
-    let same : l.i + 1 - 1 ≡ l.i = omega arith in (
-      omega arith,
-      omega arith,
-      λ h. rw same,
+pub loop-i-preserved : goal.loop-i-preserved
+loop-i-preserved c =
+    let codes = c.args.codes.now in
+    let l = c.loop-i in
+    let asked = rw l.invariant.1 at c.code_question.ensures in (
       λ values each.
-          let reader = c.code_question-v.ensures ∙ code-asked c.args.codes.now values each l.i l.before (omega arith) l.invariant.2 l.at l.invariant.1 in
-          passed_here (l.invariant.3 values each) (omega arith) reader c.in-Pass.is,
+          asked_more (l.invariant.0 values each) (omega arith) (asked ∙ written-code codes values each l.i (omega arith)) c.in_ok-code_question.was,
+      sym (before_next codes l.i),
     )
 
 pub returns : goal.returns
-returns c values each = all-passed (c.loop-left.invariant.3 values each) (omega arith)
+returns c values each = asked_all (c.loop-i.invariant.0 values each) (omega arith) ∙ codes-each c.args.codes.now values
