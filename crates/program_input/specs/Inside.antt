@@ -1,10 +1,7 @@
 -- What the functions of this crate require and promise. No definition of document 01.
-use Rattle.std.specs.Prelude.{Ok, Err}
-use Rattle.std.specs.Prelude.{◌≡◌, List, ◌++◌, ℕ, ◌≤◌, min, length, drop}
-use Rattle.big_endian.specs.BigEndian.{byte_at, long_at, longs_from}
-use Rattle.refusal.specs.Questions.{Verdict}
-use Rattle.refusal.specs.Questions.{Pass}
-use Rattle.program_input.specs.declared.Head.{Head}
+use Rattle.std.specs.Prelude.{List, ℕ, ◌≤◌, min, length}
+use Rattle.big_endian.specs.BigEndian.{byte_at, long_at}
+use Rattle.program_input.specs.declared.input.Head.{Head}
 use Rattle.program_input.specs.Input.{head_length, list_length, file_start}
 
 -- the numbers at the start of an input
@@ -18,18 +15,12 @@ head_of input =
       listed = list_length input;
     }
 
--- question 13 passed, and the list's length is known
-pub record CompleteInput (input : List ℕ) (listed : ℕ) : Type 0 where
+-- an input with its head and its list complete
+pub record CompleteInput (input : List ℕ) : Type 0 where
   pub small : length input ≤ 65_536
   pub head : head_length ≤ length input
   pub list : file_start input ≤ length input
-  pub length : listed ≡ list_length input
 
 -- the entries of a list that question 9 can ask about: entry index 400 is at fault whatever it holds
 abbrev pub asked_entries : ℕ → ℕ
 asked_entries listed = min listed 401
-
--- the list's first entries, at the start of a lent list, which keeps the others
-pub record ListRead (input before : List ℕ) (r : ℕ) (after : List ℕ) : Type 0 where
-  pub count : r ≡ asked_entries (list_length input)
-  pub entries : after ≡ longs_from input (asked_entries (list_length input)) head_length ++ drop (asked_entries (list_length input)) before

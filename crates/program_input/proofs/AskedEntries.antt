@@ -1,7 +1,6 @@
--- What question 13 tells of an input, and that the table's entries are enough for question 9: the first 401 entries of a list are
--- refused or accepted as the whole list is, and an accepted list has no more. Assumes nothing.
-use Rattle.refusal.specs.Questions.{answered}
-use Rattle.std.specs.Prelude.{Ok, Err}
+-- The entries that are read are enough for question 9: the first 401 entries of a list are refused or accepted as the whole list is, and
+-- an accepted list has no more. Assumes nothing.
+use Rattle.std.specs.Prelude.{Err}
 use mathlib.Core.Path.{◌≡◌, refl, ◌∙◌}
 use mathlib.Core.List.{List}
 use Prim.Native.Nat.{ℕ, zero, suc, ◌+◌, ◌-◌, ◌≤◌, ◌<◌, min}
@@ -9,41 +8,15 @@ use native.Mathlib.Nat.{min-zero, suc-min-suc, lt_of_not-le}
 use native.Mathlib.Omega.{arith}
 use lib.ListN.{length, take, length-take}
 use lib.Seq.{get_or-take, take_all}
-use borrow.Author.Tests.{leb-true, le-ltb}
+use borrow.Author.Tests.{le-ltb}
 use Rattle.lists.proofs.Strides.{take_places}
 use Rattle.big_endian.specs.BigEndian.{long_at, longs_from}
-use Rattle.refusal.specs.declared.Refusal.{Refusal}
-use Rattle.refusal.specs.declared.Refusal.TheVariants.{BadInput, BadHoliday}
-use Rattle.refusal.specs.Questions.{Verdict}
-use Rattle.refusal.specs.Questions.{Pass}
-use Rattle.refusal.specs.Questions.{◌then◌, ask_each}
-use Rattle.refusal.proofs.Questions.{ask-no, ask-passed, each-passed, both}
+use Rattle.refusal.specs.declared.Refusal.TheVariants.{BadHoliday}
+use Rattle.refusal.specs.Questions.{Pass, ask_each}
+use Rattle.refusal.proofs.Questions.{ask-no, each-passed}
 use Rattle.calendar_holidays.specs.Holidays.{holiday_question, holidays_question}
-use Rattle.program_input.specs.declared.Head.{Head}
-use Rattle.program_input.specs.Input.{head_length, list_length, input_question, request_in}
-use Rattle.program_input.specs.Inside.{head_of, CompleteInput, asked_entries}
-
--- what an answer tells of question 13, and the other way round
-pub headed-complete : (v : Verdict) {head given : Head} → Ok head ≡ answered v given → (v ≡ Pass) × (head ≡ given)
-headed-complete (Ok _) h = (refl, cc)
-headed-complete (Err r) h = let z : ◌≡◌ {A = ℕ} 0 1 = cc in absurd (omega arith)
-
-pub headed-refused : (v : Verdict) (given : Head) {r : Refusal} → Err r ≡ answered v given → v ≡ Err r
-headed-refused (Ok _) given h = let z : ◌≡◌ {A = ℕ} 0 1 = cc in absurd (omega arith)
-headed-refused (Err r) given h = cc
-
-pub answers-complete : {v : Verdict} {head given : Head} → v ≡ Pass → head ≡ given → Ok head ≡ answered v given
-answers-complete p e = rw (p, e)
-
-pub answers-refused : {v : Verdict} {r : Refusal} (given : Head) → v ≡ Err r → Err r ≡ answered v given
-answers-refused given h = rw h
-
-pub complete : (input : List ℕ) {head : Head} → input_question input ≡ Pass → head ≡ head_of input → CompleteInput input head.listed
-unfolding input_question
-complete input h e =
-    let all = both _ _ (ask-passed _ BadInput h) in
-    let two = both _ _ all.0 in
-    record { small = leb-true _ _ two.0; head = leb-true _ _ two.1; list = leb-true _ _ all.1; length = rw e }
+use Rattle.program_input.specs.Input.{head_length, list_length, request_in}
+use Rattle.program_input.specs.Inside.{asked_entries}
 
 -- "entry index 400 is itself at fault", and so is each behind it
 at-fault : (holidays : List ℕ) (index : ℕ) → 400 ≤ index → holiday_question holidays index ≡ Err (BadHoliday index)
