@@ -15,7 +15,7 @@ use Rattle.refusal.specs.Questions.{reported, ◌then◌}
 use Rattle.refusal.proofs.Questions.{IsRefused, on-refused, refused-second, passed-second, then-first, then_next, ask-passed, room-passed}
 use Rattle.calendar_holidays.specs.Holidays.{holidays_question}
 use Rattle.calendar_period.specs.Period.{period_check}
-use Rattle.calendar_period.proofs.Period.{Period, period-passed}
+use Rattle.calendar_period.proofs.Periods.{Period, period-passed}
 use Rattle.calendar_reading_periods.specs.ReadingPeriods.{readings_question, first_dates_question, ReadingPeriod, reading_periods}
 use Rattle.calendar_reading_periods.proofs.ReadingPeriods.{Counted, counted, all-dates, begins}
 use Rattle.carry.specs.Carry.{largest_use}

@@ -1,5 +1,5 @@
--- Questions other than 9 do not refuse Rattle.std.specs.Prelude.{Ok, Err}
-use by it: one by one, one after the other, and at places one stride apart. Assumes nothing.
+-- Questions other than 9 do not refuse by it: one by one, one after the other, and at places one stride apart. Assumes nothing.
+use Rattle.std.specs.Prelude.{Ok, Err}
 use mathlib.Core.Path.{◌≡◌}
 use mathlib.Core.Bool.{Bool, true, false}
 use mathlib.Core.List.{List}
@@ -10,6 +10,8 @@ use Rattle.refusal.specs.declared.Refusal.TheVariants.{NoMark, WrongVersion, Wro
 use Rattle.refusal.specs.Questions.{Verdict}
 use Rattle.refusal.specs.Questions.{Pass}
 use Rattle.refusal.specs.Questions.{refusal_number, ask, ◌then◌, ask_each, room_question}
+use Rattle.calendar_dates.specs.declared.Date.{Date}
+use Rattle.calendar_dates.specs.Dates.{date_of}
 use Rattle.calendar_period.specs.Period.{date_question, period_question, period_check}
 use Rattle.file_layout.specs.declared.Layout.{Layout}
 use Rattle.file_layout.specs.Header.{layout_of, mark_question, version_question, length_question, header_check}
@@ -37,11 +39,23 @@ each question step zero at h = passed
 each question step (suc n) at h = both (question at) (ask_each question step n (at + step)) (h at) (each question step n (at + step) h)
 
 -- questions 1 to 6
+mark : (file : List ℕ) → NotByNine (mark_question file)
+unfolding mark_question
+mark file = one _ NoMark (λ h. absurd (omega (arith, h)))
+
+version : (file : List ℕ) → NotByNine (version_question file)
+unfolding version_question
+version file = one _ WrongVersion (λ h. absurd (omega (arith, h)))
+
+length-asked : (layout : Layout) (file : List ℕ) → NotByNine (length_question layout file)
+unfolding length_question
+length-asked layout file = one _ WrongLength (λ h. absurd (omega (arith, h)))
+
 header-questions : (file : List ℕ) → NotByNine (header_check file)
-unfolding mark_question version_question length_question header_check
+unfolding header_check
 header-questions file =
-    both _ _ (one _ NoMark (λ h. absurd (omega (arith, h))))
-    (both _ _ (one _ WrongVersion (λ h. absurd (omega (arith, h)))) (one _ WrongLength (λ h. absurd (omega (arith, h)))))
+    both (mark_question file) (version_question file then length_question (layout_of file) file) (mark file)
+    (both (version_question file) (length_question (layout_of file) file) (version file) (length-asked (layout_of file) file))
 
 code-questions : (layout : Layout) (file : List ℕ) → NotByNine (codes_question layout file)
 unfolding code_question
@@ -51,25 +65,45 @@ value-questions : (layout : Layout) (file : List ℕ) → NotByNine (values_ques
 unfolding value_question profile_values_question
 value-questions layout file = each _ _ _ _ (λ k. each _ _ _ _ (λ j. one _ (BadValue j) (λ h. absurd (omega (arith, h)))))
 
+group : (file : List ℕ) (wanted : ℕ) → NotByNine (group_question file wanted 0)
+unfolding group_question
+group file wanted = one _ (NoGroup 0) (λ h. absurd (omega (arith, h)))
+
+file-checked : (file : List ℕ) → NotByNine (file_check file)
+unfolding file_check
+file-checked file =
+    let layout = layout_of file in
+    both (header_check file) (codes_question layout file then values_question layout file) (header-questions file)
+    (both (codes_question layout file) (values_question layout file) (code-questions layout file) (value-questions layout file))
+
 pub file-and-group : (file : List ℕ) (group : ℕ) → NotByNine (check file group)
-unfolding file_check group_question
-file-and-group file group =
-    both _ _ (both _ _ (header-questions file) (both _ _ (code-questions (layout_of file) file) (value-questions (layout_of file) file)))
-    (one _ (NoGroup 0) (λ h. absurd (omega (arith, h))))
+file-and-group file wanted = both (file_check file) (group_question file wanted 0) (file-checked file) (group file wanted)
 
 -- questions 7 and 8
 pub date-question : (date place : ℕ) → NotByNine (date_question date place)
 unfolding date_question
 date-question date place = one _ (BadDate place) (λ h. absurd (omega (arith, h)))
 
-pub period : (first last : ℕ) → NotByNine (period_check first last)
+between : (first last : Date) → NotByNine (period_question first last)
 unfolding period_question
-period first last = both _ _ (date-question first 0) (both _ _ (date-question last 1) (one _ BadPeriod (λ h. absurd (omega (arith, h)))))
+between first last = one _ BadPeriod (λ h. absurd (omega (arith, h)))
+
+pub period : (first last : ℕ) → NotByNine (period_check first last)
+period first last =
+    both (date_question first 0) (date_question last 1 then period_question (date_of first) (date_of last)) (date-question first 0)
+    (both (date_question last 1) (period_question (date_of first) (date_of last)) (date-question last 1) (between (date_of first) (date_of last)))
 
 -- questions 10 to 12
+yearly-use : (yearly : ℕ) → NotByNine (use_question yearly)
+unfolding use_question
+yearly-use yearly = one _ BadUse (λ h. absurd (omega (arith, h)))
+
+carry-asked : (carry : ℕ) → NotByNine (carry_question carry)
+unfolding carry_question
+carry-asked carry = one _ BadCarry (λ h. absurd (omega (arith, h)))
+
 pub use-and-carry : (yearly carry : ℕ) → NotByNine (use_question yearly then carry_question carry)
-unfolding use_question carry_question
-use-and-carry yearly carry = both _ _ (one _ BadUse (λ h. absurd (omega (arith, h)))) (one _ BadCarry (λ h. absurd (omega (arith, h))))
+use-and-carry yearly carry = both (use_question yearly) (carry_question carry) (yearly-use yearly) (carry-asked carry)
 
 pub output : (needed room : ℕ) → NotByNine (room_question needed room)
 output needed room = one _ (ShortOutput needed) (λ h. absurd (omega (arith, h)))

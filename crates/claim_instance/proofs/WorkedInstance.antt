@@ -6,9 +6,10 @@ use native.Mathlib.Nat.{add-zero}
 use native.Mathlib.Omega.{arith}
 use lib.ListN.{length, drop}
 use lib.Seq.{get_or-drop, drop-drop}
+use lib.Dec.{leb}
 use Rattle.refusal.specs.Questions.{answered}
 use Rattle.lists.specs.Lists.{sum, Each, each_from}
-use Rattle.big_endian.specs.BigEndian.{byte_at}
+use Rattle.big_endian.specs.BigEndian.{byte_at, word_at}
 use Rattle.refusal.specs.declared.Refusal.TheVariants.{BadValue}
 use Rattle.refusal.specs.Questions.{Pass}
 use Rattle.refusal.specs.Questions.{Verdict}
@@ -42,7 +43,7 @@ small-values file (suc n) at e =
     let high : byte_at file at ≡ 3 = rw add-zero at (byte 0) in
     let low : byte_at file (at + 1) ≡ 233 = byte 1 in
     let rest : drop (at + 2) file ≡ times n (3 ∷ 233 ∷ []) = rw (← drop-drop 2 at file, e) in
-    then-pass _ (ask-yes (BadValue at) (rw (high, low))) ∙ small-values file n (at + 2) rest
+    then-pass _ (ask-yes {b = leb (word_at file at) 20_000} (BadValue at) (rw (high, low))) ∙ small-values file n (at + 2) rest
 
 -- the file passes questions 1 to 6
 passes : check listing_file 1 ≡ Pass

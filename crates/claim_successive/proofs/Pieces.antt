@@ -16,7 +16,7 @@ use Rattle.calendar_dates.specs.Dates.{date_of, day_number, days_later, AllDates
 use Rattle.calendar_dates.proofs.Later.{later-number}
 use Rattle.calendar_holidays.specs.Holidays.{holidays_question}
 use Rattle.calendar_period.specs.Period.{days_of}
-use Rattle.calendar_period.proofs.Period.{Period, period-passed, period-passes}
+use Rattle.calendar_period.proofs.Periods.{Period, period-passed, period-passes}
 use Rattle.calendar_laws.proofs.Periods.{period-days}
 use Rattle.carry.specs.Carry.{largest_use, largest_carry}
 use Rattle.call_request.specs.Request.{Request, series, use_question, carry_question, ahead_of_period, behind_period, request_check}

@@ -7,7 +7,7 @@ use lib.ListN.{length, length-append, length-map}
 use Rattle.calendar_dates.specs.declared.Date.{Date}
 use Rattle.calendar_days.specs.declared.DayKind.{DayKind}
 use Rattle.calendar_days.specs.Days.{clock}
-use Rattle.calendar_period.proofs.Period.{clock-small}
+use Rattle.calendar_period.proofs.Periods.{clock-small}
 use Rattle.carry.specs.declared.Totals.{Totals}
 use Rattle.carry.specs.Energy.{powers}
 use Rattle.carry.proofs.Carry.{length-figures}
