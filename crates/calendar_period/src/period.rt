@@ -45,7 +45,7 @@ impl Period {
         if 1_461 < days {
             return Err(Refusal::BadPeriod);
         }
-        Ok(Period { first, days })
+        Ok(Period::of_days(first, days))
     }
 
     // Questions 7 and 8.

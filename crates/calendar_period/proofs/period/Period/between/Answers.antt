@@ -8,9 +8,9 @@ use Rattle.calendar_period.proofs.period.Period.between.Goals as goal
 pub overflow_add-days : goal.overflow_add-days
 overflow_add-days c = let last = c.day_number-to.ensures in omega (arith, last.same, number_small _ last.real)
 
-pub invariant_of-result : goal.invariant_of-result
+pub of_days-requires-clause-real : goal.of_days-requires-clause-real
 unfolding days_of
-invariant_of-result c =
+of_days-requires-clause-real c =
     let from = c.day_number-from.ensures in
     let to = c.day_number-to.ensures in
-    (omega arith, omega arith, rw (from.same, to.same) (all-between c.args.first c.args.last from.real to.real (omega (arith, from.same, to.same))))
+    rw (from.same, to.same) (all-between c.args.first c.args.last from.real to.real (omega (arith, from.same, to.same)))
