@@ -7,6 +7,7 @@ ghost use Rattle.call_day.specs.Enquiry.{describe, day_enquiry, season_digit, da
 use calendar_dates::CalendarDay;
 use calendar_days::{DayType, Season};
 use refusal::Refusal;
+use std::fmt;
 
 #[derive(Clone, Copy, Debug, PartialEq, Eq)]
 pub struct Day {
@@ -15,6 +16,19 @@ pub struct Day {
     pub season: Season,
     pub day_type: DayType,
     pub value_count: u32,
+}
+
+// Weekday, t, season with day type, and value count.
+impl fmt::Display for Day {
+    fn fmt<W: fmt::Write>(&self, f: &mut fmt::Formatter<W>) -> fmt::Result {
+        let season = self.season;
+        let day_type = self.day_type;
+        write!(
+            f,
+            "{} {} {season}{day_type} {}",
+            self.weekday, self.t, self.value_count
+        )
+    }
 }
 
 // The answer as document 01's numbers: number and place, 0 when accepted, and the day's numbers, 0 when refused.
@@ -46,7 +60,8 @@ fn describe(day: CalendarDay, holidays: &[u32]) -> Day
 // Describes the day of a date, or refuses by the first failing question.
 #[tactic(auto, unfolding(crate::specs::Enquiry::day_enquiry))]
 pub fn enquire(date: u32, holidays: &[u32]) -> Result<Day, Refusal>
-    ensures { result ≡ day_enquiry date holidays.now }
+    ensures value { result ≡ day_enquiry date holidays.now }
+    ensures result_value { reported result ≡ reported (day_enquiry date holidays.now) }
 {
     let day = calendar_period::date_in(date, 0)?;
     calendar_holidays::holidays_question(holidays)?;

@@ -73,6 +73,7 @@ fn list_question(needed: usize, room: usize) -> Result<(), Refusal>
 #[tactic(auto, using(crate::proofs::Questions::list_passed), unfolding(crate::specs::Holidays::holidays_answer, crate::specs::Holidays::list_after, crate::specs::Holidays::holidays_check))]
 pub fn list_holidays(year: u32, choice: u8, list: &mut [u32]) -> Result<usize, Refusal>
     ensures value { result ≡ holidays_answer year choice (length list.old) }
+    ensures result_value { reported result ≡ reported (holidays_answer year choice (length list.old)) }
     ensures list_after { list.new ≡ list_after year choice list.old }
 {
     let year = year_in(year)?;

@@ -2,6 +2,7 @@
 // handed on, then both in one call: for each call a line with its dates, then count, Wh and carry, or the refusal. The last call's
 // output is too short.
 use calendar_dates::Date;
+use call_request::Request;
 use std::io;
 
 pub fn show(rt: &HostRuntime, file: &[u8]) -> io::Result<()> {
@@ -22,7 +23,16 @@ fn expand(
     carry: u32,
     figures: &mut [u32],
 ) -> io::Result<u32> {
-    let answer = call_expand::expand(file, 1, first, last, &[], 1_000, carry, figures);
+    let request = Request {
+        file,
+        group: 1,
+        first,
+        last,
+        holidays: &[],
+        yearly: 1_000,
+        carry,
+    };
+    let answer = call_expand::expand(request, figures);
     let from = Date::from(first);
     let to = Date::from(last);
     match answer {

@@ -21,6 +21,7 @@ ghost use Rattle.program_response.specs.Responding.{response_to, page_after as r
 use call_day::DayReport;
 use call_expansion::ExpansionReport;
 use call_holidays::HolidaysReport;
+use call_request::Request;
 use file_compare::ComparisonReport;
 use file_locate::LocatedPart;
 use program_response::ResponseReport;
@@ -31,7 +32,7 @@ use refusal::CheckReport;
 pub extern "C" fn slp_check(file: &[u8], group: u8) -> CheckReport
     ensures { result ≡ reported (check file.now group) }
 {
-    refusal::report(file_group::check(file, group))
+    CheckReport::from(file_group::check(file, group))
 }
 
 // Where a group's value bytes stand in the file.
@@ -48,7 +49,7 @@ pub extern "C" fn slp_read(file: &[u8], group: u8, table: &mut [u16]) -> CheckRe
     ensures value { result ≡ reported (read_check file.now group (length table.old)) }
     ensures table_after { table.new ≡ table_after file.now group table.old }
 {
-    refusal::report(file_read::read(file, group, table))
+    CheckReport::from(file_read::read(file, group, table))
 }
 
 // Writes a profile file into a buffer.
@@ -57,7 +58,7 @@ pub extern "C" fn slp_write(codes: &[u8], values: &[u16], buffer: &mut [u8]) -> 
     ensures value { result ≡ reported (write_check codes.now values.now (length buffer.old)) }
     ensures buffer_after { buffer.new ≡ buffer_after codes.now values.now buffer.old }
 {
-    refusal::report(file_write::write(codes, values, buffer))
+    CheckReport::from(file_write::write(codes, values, buffer))
 }
 
 // Compares two groups.
@@ -65,7 +66,7 @@ pub extern "C" fn slp_write(codes: &[u8], values: &[u16], buffer: &mut [u8]) -> 
 pub extern "C" fn slp_compare(file: &[u8], first: u8, second: u8) -> ComparisonReport
     ensures { result ≡ reported_comparison (comparison file.now first second) }
 {
-    file_compare::report(file_compare::compare(file, first, second))
+    ComparisonReport::from(file_compare::compare(file, first, second))
 }
 
 // The holidays of a year, into a list.
@@ -74,7 +75,7 @@ pub extern "C" fn slp_holidays(year: u32, choice: u8, list: &mut [u32]) -> Holid
     ensures value { result ≡ reported_holidays (holidays_answer year choice (length list.old)) }
     ensures list_after { list.new ≡ list_after year choice list.old }
 {
-    call_holidays::report(call_holidays::list_holidays(year, choice, list))
+    HolidaysReport::from(call_holidays::list_holidays(year, choice, list))
 }
 
 // The day enquiry.
@@ -82,7 +83,7 @@ pub extern "C" fn slp_holidays(year: u32, choice: u8, list: &mut [u32]) -> Holid
 pub extern "C" fn slp_day(date: u32, holidays: &[u32]) -> DayReport
     ensures { result ≡ reported_day (day_enquiry date holidays.now) }
 {
-    call_day::report(call_day::enquire(date, holidays))
+    DayReport::from(call_day::enquire(date, holidays))
 }
 
 // Expanding.
@@ -100,9 +101,16 @@ pub extern "C" fn slp_expand(
     ensures { Reports
         (request file.now group first last holidays.now yearly carry out.old) result out.new }
 {
-    call_expansion::report(call_expand::expand(
-        file, group, first, last, holidays, yearly, carry, out,
-    ))
+    let request = Request {
+        file,
+        group,
+        first,
+        last,
+        holidays,
+        yearly,
+        carry,
+    };
+    ExpansionReport::from(call_expand::expand(request, out))
 }
 
 // Over and under deliveries.
@@ -122,7 +130,7 @@ pub extern "C" fn slp_deliveries(
         (deliveries file.now group first last starts.now metered.now holidays.now yearly out.old)
         result out.new }
 {
-    refusal::report(call_deliveries::differences(
+    CheckReport::from(call_deliveries::differences(
         file, group, first, last, starts, metered, holidays, yearly, out,
     ))
 }
@@ -142,8 +150,16 @@ pub extern "C" fn slp_page(
     ensures { PageReports
         (request file.now group first last holidays.now yearly carry page.old) result page.new }
 {
-    let answer = call_page::day_page(file, group, first, last, holidays, yearly, carry, page);
-    call_expansion::report(answer)
+    let request = Request {
+        file,
+        group,
+        first,
+        last,
+        holidays,
+        yearly,
+        carry,
+    };
+    ExpansionReport::from(call_page::day_page(request, page))
 }
 
 // What the program prints for an input.
@@ -152,5 +168,5 @@ pub extern "C" fn slp_respond(input: &[u8], page: &mut [u8]) -> ResponseReport
     ensures value { result ≡ reported_response (response_to input.now page.old) }
     ensures page_after { page.new ≡ response_after input.now page.old }
 {
-    program_response::report(program_response::respond(input, page))
+    ResponseReport::from(program_response::respond(input, page))
 }

@@ -12,6 +12,7 @@ mod trade;
 
 ghost use Rattle.std.specs.Prelude.{◌≤◌, IfOk};
 
+use call_request::Request;
 use rows::{COLUMNS, ROWS, Row, Table};
 use std::io;
 
@@ -122,17 +123,16 @@ fn expand_row(
     } else {
         &rows::HOLIDAYS
     };
-    let answer = call_expand::expand(
+    let request = Request {
         file,
-        scale.group,
-        row.date,
-        row.date,
+        group: scale.group,
+        first: row.date,
+        last: row.date,
         holidays,
-        scale.yearly,
-        0,
-        figures,
-    );
-    if let Err(refusal) = answer {
+        yearly: scale.yearly,
+        carry: 0,
+    };
+    if let Err(refusal) = call_expand::expand(request, figures) {
         println!(rt; "refused {refusal}")?;
     }
     Ok(())
