@@ -86,9 +86,9 @@ fn definition_and_code_ask_in_the_same_words() {
     );
     let code = comments_and_words(
         "crates/calendar_days/src/lib.rt",
-        "    ensures { result ≡ season d }",
+        "    ensures { result ≡ season day }",
         "//",
-        &["if", "return", "Season", "d"],
+        &["let", "=", "day.date", "if", "else", "Season", "date"],
     );
     assert_eq!(definition, code);
     let (comments, words) = code;
