@@ -1,5 +1,4 @@
 -- The bytes of values, of profiles and of the file, one behind the other, as loops store them. Assumes nothing.
-use Rattle.std.specs.Prelude.{Err}
 use mathlib.Core.Path.{◌≡◌, refl, ◌∙◌}
 use mathlib.Core.List.{List, [], ◌∷◌, ◌++◌}
 use Prim.Native.Nat.{ℕ, ◌+◌, ◌-◌, ◌*◌, ◌≤◌, ◌<◌}
@@ -9,10 +8,6 @@ use lib.Seq.{sets, drop-drop, length-take-le}
 use Rattle.lists.proofs.Stores.{stored-first}
 use Rattle.lists.proofs.Parts.{drop-next}
 use Rattle.big_endian.specs.BigEndian.{bytes_of}
-use Rattle.refusal.specs.Questions.{Verdict}
-use Rattle.refusal.specs.Questions.{Pass}
-use Rattle.refusal.specs.Questions.{on_pass}
-use Rattle.refusal.proofs.Questions.{IsRefused, passed-not-refused}
 use Rattle.file_layout.specs.Header.{mark}
 use Rattle.file_written.specs.Written.{profiles_of, written}
 use Rattle.file_written.proofs.Written.{part_of, length-bytes}
@@ -55,11 +50,3 @@ pub file-stored : (codes values buffer : List ℕ) {headed after : List ℕ} →
     after ≡ written codes values ++ drop (length (written codes values)) buffer
 unfolding written bytes_of
 file-stored codes values buffer room eh ea = ea ∙ rw eh (stored-first (written codes values) buffer refl room)
-
--- what the lent memory holds after a refusal, and after all passed
-pub keeps : {A : Type 0} {v w : Verdict} (a b : A) → v ≡ w → IsRefused v → b ≡ on_pass w a b
-keeps {v = Pass} a b e t = passed-not-refused t
-keeps {v = Err r} a b e t = rw (← e)
-
-pub fills : {A : Type 0} {w : Verdict} (a b : A) → w ≡ Pass → a ≡ on_pass w a b
-fills a b e = rw e

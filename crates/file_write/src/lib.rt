@@ -10,36 +10,26 @@ ghost use Rattle.file_written.specs.Written.{profiles_of};
 ghost use Rattle.file_write_check.specs.WriteCheck.{write_check};
 ghost use Rattle.file_write.specs.Buffer.{buffer_after};
 
-use file_layout::{HEADER_LENGTH, MARK};
-use file_written::{PROFILE_LENGTH, PROFILE_VALUES};
+use file_layout::{HEADER_LENGTH, MARK, PROFILE_LENGTH, PROFILE_VALUES, VERSION};
 use refusal::Refusal;
 
-// Mark, version 1 and count.
+// Mark, version and count.
 fn put_header(count: usize, buffer: &mut [u8])
     requires { (count < 256) × (6 ≤ length buffer.old) }
     ensures { buffer.new ≡ sets buffer.old 0 (mark ++ (bytes_of (1 ∷ []) ++ (count ∷ []))) }
 {
-    buffer[0] = MARK[0];
-    buffer[1] = MARK[1];
-    buffer[2] = MARK[2];
-    buffer[3] = 0;
-    buffer[4] = 1;
+    buffer[..3].copy_from_slice(&MARK);
+    big_endian::put_word(VERSION, buffer, 3);
     buffer[5] = count as u8;
 }
 
-// A profile's values.
-fn put_values(values: &[u16], buffer: &mut [u8], at: usize)
-    requires { at + length values.now * 2 ≤ length buffer.old }
-    ensures { buffer.new ≡ sets buffer.old at (bytes_of values.now) }
+// A profile's values, into a part that has just their bytes.
+fn put_values(values: &[u16], part: &mut [u8])
+    requires { length part.old ≡ length values.now * 2 }
+    ensures { part.new ≡ bytes_of values.now }
 {
-    let mut left = values.len();
-    let mut i: usize = 0;
-    let mut at = at;
-    while 0 < left {
-        big_endian::put_word(values[i], buffer, at);
-        i += 1;
-        at += 2;
-        left -= 1;
+    for (i, value) in values.iter().enumerate() {
+        big_endian::put_word(*value, part, i * 2);
     }
 }
 
@@ -48,18 +38,14 @@ fn put_profiles(codes: &[u8], values: &[u16], buffer: &mut [u8])
     requires { (length values.now ≡ length codes.now * 864) × (6 + length codes.now * 1729 ≤ length buffer.old) }
     ensures { buffer.new ≡ sets buffer.old 6 (profiles_of 864 codes.now values.now) }
 {
-    let mut left = codes.len();
-    let mut i: usize = 0;
-    let mut from: usize = 0;
-    let mut at = HEADER_LENGTH;
-    while 0 < left {
-        buffer[at] = codes[i];
-        let end = from + PROFILE_VALUES;
-        put_values(&values[from..end], buffer, at + 1);
-        i += 1;
-        from = end;
-        at += PROFILE_LENGTH;
-        left -= 1;
+    for (i, code) in codes.iter().enumerate() {
+        let at = HEADER_LENGTH + i * PROFILE_LENGTH;
+        let from = i * PROFILE_VALUES;
+        buffer[at] = *code;
+        put_values(
+            &values[from..from + PROFILE_VALUES],
+            &mut buffer[at + 1..at + PROFILE_LENGTH],
+        );
     }
 }
 
@@ -72,5 +58,5 @@ pub fn write(codes: &[u8], values: &[u16], buffer: &mut [u8]) -> Result<(), Refu
     file_write_check::write_check(codes, values, buffer.len())?;
     put_header(codes.len(), buffer);
     put_profiles(codes, values, buffer);
-    v
+    Ok(())
 }
