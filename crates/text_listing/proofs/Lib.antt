@@ -1,3 +1,2 @@
-pub mod DayLine
 pub mod LineByLine
 pub mod Listing

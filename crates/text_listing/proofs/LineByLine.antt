@@ -1,120 +1,129 @@
 -- A period's lines, one after the other: what is put, with the lines of the days left, is the whole. Laws for the loop's start, turn
--- and end. The totals follow by series_totals' laws of the days left.
--- Assumes nothing.
-use mathlib.Core.Path.{◌≡◌, refl, sym, ◌∙◌}
-use mathlib.Core.List.{List, [], ◌++◌, append-nil, append_assoc}
-use Prim.Native.Nat.{ℕ, zero, suc, ◌+◌, ◌-◌, ◌*◌, ◌≤◌, ◌<◌}
-use native.Mathlib.Omega.{arith}
-use native.Mathlib.Nat.{mul_comm}
-use lib.ListN.{length}
-use Rattle.lists.proofs.Strides.{stride}
+-- and end. What the days come to follows by series' laws of the days left. Assumes nothing.
+use Rattle.std.proofs.Common.{◌≡◌, refl, sym, ◌∙◌, ap, ℕ, zero, suc, ◌+◌, ◌*◌, ◌^◌, ◌≤◌, List, [], ◌∷◌, ◌++◌, length, arith}
+use mathlib.Core.List.{append-nil, append_assoc}
+use native.Mathlib.Nat.{mul-suc}
+use Rattle.std.proofs.lemmas.List.{take-append-drop}
 use Rattle.calendar_dates.specs.declared.Date.{Date}
 use Rattle.calendar_dates.specs.Dates.{next_day}
 use Rattle.calendar_days.specs.declared.DayKind.{DayKind}
 use Rattle.calendar_days.specs.Days.{day_kind}
-use Rattle.calendar_period.specs.declared.CalendarDay.{CalendarDay}
-use Rattle.calendar_period.specs.Inside.{calendar_day, RealDays}
+use Rattle.calendar_period.specs.Period.{dates_from}
+use Rattle.carry.specs.declared.Totals.{Totals}
+use Rattle.carry.specs.Totals.{together}
 use Rattle.carry.specs.Carry.{last_carry}
+use Rattle.carry.proofs.Carry.{length-figures}
 use Rattle.day_powers.specs.DayQuarters.{Basis}
-use Rattle.series.specs.Inside.{GroupValues, InRange}
+use Rattle.series.specs.Inside.{GroupValues, comes_to}
+use Rattle.series.specs.Kinds.{with_kinds}
 use Rattle.series.proofs.OneDay.{day_powers}
-use Rattle.series.proofs.DayByDay.{length-powers}
-use Rattle.series_totals.proofs.DayByDay.{TotalsLeft, none-summed, all-summed, count_fits, total-fits, day-added}
-use Rattle.series_rows.specs.Rows.{Row, day_row, rows}
-use Rattle.text.specs.Inside.{Put}
-use Rattle.text.proofs.Puts.{put-length, put-put}
-use Rattle.text_listing.specs.declared.Form.{Form}
-use Rattle.text_listing.specs.declared.Lines.{Lines}
+use Rattle.series.proofs.DayByDay.{SoFar, powers_from, all-done, count-fits, total-fits, day-done}
+use Rattle.series_rows.specs.Rows.{Row, row_of, day_row, rows}
+use Rattle.text.specs.declared.Page.{Page}
+use Rattle.text.specs.Inside.{Put, Room}
+use Rattle.text.proofs.Puts.{both}
 use Rattle.text_listing.specs.Listing.{line_after_line}
-use Rattle.text_listing.specs.Inside.{line_in, longest_line, DayRoom, DayListed, Listed}
-
--- the lines of some days in any form, begun with a carry
-abbrev pub lines_from : (DayKind → Row → List ℕ) → Basis → ℕ → ℕ → Date → ℕ → List ℕ
-lines_from line b yearly n d carry = line_after_line line b.holidays (rows b yearly n d carry)
+use Rattle.text_listing.specs.Inside.{Listed}
+use Rattle.text_listing.proofs.Listing.{few-powers}
 
 module _ (line : DayKind → Row → List ℕ) (b : Basis) (yearly : ℕ) where
-  lines_none : (n : ℕ) (d : Date) (carry : ℕ) → n ≤ 0 → lines_from line b yearly n d carry ≡ []
-  unfolding rows line_after_line
-  lines_none zero d carry h = refl
-  lines_none (suc n) d carry h = absurd (omega arith)
+  -- the lines of some dates, each with its kind, begun with a carry
+  abbrev pub lines_on : List (Date × DayKind) → ℕ → List ℕ
+  lines_on [] carry = []
+  lines_on (day ∷ days) carry = line day.1 (day_row b yearly day.0 carry) ++ lines_on days (last_carry yearly (day_powers b day.0) carry)
 
-  lines_next : (n : ℕ) (d : Date) (carry : ℕ) → 0 < n →
-      lines_from line b yearly n d carry
-      ≡ line (day_kind d b.holidays) (day_row b yearly d carry)
-      ++ lines_from line b yearly (n - 1) (next_day d) (last_carry yearly (day_powers b d) carry)
+  lines-all : (n : ℕ) (d : Date) (carry : ℕ) → lines_on (with_kinds b.holidays (dates_from n d)) carry ≡ line_after_line line b.holidays (rows b yearly n d carry)
   unfolding rows line_after_line
-  lines_next zero d carry h = absurd (omega arith)
-  lines_next (suc n) d carry h =
-      let one : suc n - 1 ≡ n = omega arith in rw one
+  lines-all zero d carry = refl
+  lines-all (suc n) d carry =
+      ap (λ (rest : List ℕ). line (day_kind d b.holidays) (day_row b yearly d carry) ++ rest)
+      (lines-all n (next_day d) (last_carry yearly (day_powers b d) carry))
+
+days-left : (holidays : List ℕ) (n : ℕ) (d : Date) → length (with_kinds holidays (dates_from n d)) ≡ n
+days-left holidays zero d = refl
+days-left holidays (suc n) d = ap suc (days-left holidays n (next_day d))
 
 -- the lines of the days left are still to come
-pub record LinesLeft (form : Form) (b : Basis) (yearly carry days : ℕ) (first : Date) (entry : List ℕ) (day : CalendarDay) (left : ℕ) (so_far : Lines) (page : List ℕ) : Type 0 where
-  pub totals : TotalsLeft b yearly carry days first day left so_far.totals
+pub record LinesLeft (line : DayKind → Row → List ℕ) (longest : ℕ) (b : Basis) (yearly carry days : ℕ) (first : Date) (entry : Page) (left : List (Date × DayKind)) (totals : Totals) (page : Page) : Type 0 where
+  pub done : List ℕ
+  pub so_far : SoFar b yearly carry (powers_from b days first) done left totals
   pub text : List ℕ
-  pub put : Put text entry 0 so_far.at page
-  pub lines_left : text ++ lines_from (line_in form) b yearly left day.date so_far.totals.carry ≡ lines_from (line_in form) b yearly days first carry
-  pub short : so_far.at + left * longest_line form ≤ days * longest_line form
-  pub room : days * longest_line form ≤ length entry
+  pub put : Put text entry page
+  pub lines_left : text ++ lines_on line b yearly left totals.carry ≡ line_after_line line b.holidays (rows b yearly days first carry)
+  pub short : page.at + longest * length left ≤ entry.at + longest * days
 
-pub begin : (form : Form) (b : Basis) (sound : GroupValues b.values) {yearly carry days : ℕ} {day : CalendarDay} {entry : List ℕ} →
-    RealDays day days → InRange yearly carry → longest_line form * days ≤ length entry →
-    LinesLeft form b yearly carry days day.date entry day days (record { at = 0; totals = record { count = 0; total = 0; carry = carry } }) entry
-begin form b sound {days = days} real range room =
-    let turned = mul_comm days (longest_line form) in
+nothing : (page : Page) → Put [] page page
+nothing page =
+    let here : page.at + 0 ≡ page.at = omega arith in
+    record { bytes = rw here (sym (take-append-drop page.at page.bytes.now)); behind = sym here; kept = refl; same_page = refl }
+
+-- no line is put yet
+pub none-put : (line : DayKind → Row → List ℕ) (longest : ℕ) {b : Basis} {yearly carry days : ℕ} {first : Date} {entry : Page} →
+    SoFar b yearly carry (powers_from b days first) [] (with_kinds b.holidays (dates_from days first)) (record { count = 0; total = 0; carry = carry }) →
+    LinesLeft line longest b yearly carry days first entry (with_kinds b.holidays (dates_from days first)) (record { count = 0; total = 0; carry = carry }) entry
+none-put line longest {b} {yearly} {carry} {days} {first} {entry} so_far =
     record {
-      totals = none-summed b sound real range;
+      done = [];
+      so_far = so_far;
       text = [];
-      put = record { page = refl; behind = refl };
-      lines_left = refl;
-      short = omega arith;
-      room = omega arith;
+      put = nothing entry;
+      lines_left = lines-all line b yearly days first carry;
+      short = rw (days-left b.holidays days first) (omega arith);
     }
 
-module _ {form : Form} {b : Basis} {yearly carry days : ℕ} {first : Date} {entry : List ℕ} {day : CalendarDay} {left : ℕ} {so_far : Lines} {page : List ℕ}
-    (l : LinesLeft form b yearly carry days first entry day left so_far page) where
-  pub page-length : length page ≡ length entry
-  page-length =
-      let at = l.put.behind in
-      put-length l.put (omega arith)
-
-  pub end : left ≤ 0 → Listed form b yearly carry days first entry so_far page
-  end none =
-      let turned = mul_comm days (longest_line form) in
-      let all : l.text ≡ lines_from (line_in form) b yearly days first carry =
-      sym (append-nil l.text) ∙ (rw (lines_none (line_in form) b yearly left day.date so_far.totals.carry none) at l.lines_left) in
-      let sums = all-summed l.totals none in
+module _ {line : DayKind → Row → List ℕ} {longest : ℕ} {b : Basis} {yearly carry days : ℕ} {first : Date} {entry : Page} {left : List (Date × DayKind)} {totals : Totals} {page : Page}
+    (l : LinesLeft line longest b yearly carry days first entry left totals page) where
+  -- all lines are put
+  pub all-put : left ≡ [] → Listed line longest b yearly carry days first entry totals page
+  all-put none =
+      let all : l.text ≡ line_after_line line b.holidays (rows b yearly days first carry) = sym (append-nil l.text) ∙ (rw none at l.lines_left) in
+      let sums = all-done l.so_far none in
+      let fits = l.so_far.fits in
       record {
         lines = rw all at l.put;
-        totals = rw (length-powers b days first) at sums;
+        come_to = sums;
         short = omega (arith, l.short);
-        few = rw sums l.totals.few;
-        most = rw sums l.totals.most;
+        few = rw sums fits.few;
+        most = rw sums fits.most;
       }
 
-  module _ (some : 0 < left) where
-    pub line-room : DayRoom form b yearly day.date so_far page
-    line-room =
-        let kept = page-length in
-        record {
-          line = omega (arith, l.short, l.room, stride left (longest_line form) some);
-          count = omega (arith, count_fits l.totals some);
-          total = total-fits l.totals some;
-        }
+  module _ {d : Date} {kind : DayKind} {rest : List (Date × DayKind)} (e : left ≡ (d, kind) ∷ rest) where
+    -- the next line has room behind those so far
+    next-short : page.at + longest + longest * length rest ≤ entry.at + longest * days
+    next-short = omega (arith, rw e at l.short, mul-suc longest (length rest))
 
-    pub turn : {r : Lines} {after : List ℕ} {next : CalendarDay} → DayListed form b yearly day.date so_far page r after →
-        next ≡ calendar_day (next_day day.date) → LinesLeft form b yearly carry days first entry next (left - 1) r after
-    turn {r} did e =
-        let at = l.put.behind in
-        let room = l.room in
-        let short = l.short in
-        let line = did.line.behind in
-        let step = did.short in
-        let less = stride left (longest_line form) some in
-        record {
-          totals = day-added l.totals some did.count did.total did.carry e;
-          text = _;
-          put = put-put l.put did.line (omega arith);
-          lines_left = rw (e, did.carry) (append_assoc l.text _ _ ∙ (rw (lines_next (line_in form) b yearly left day.date so_far.totals.carry some) at l.lines_left));
-          short = omega arith;
-          room = room;
-        }
+    pub line-room : Room (longest * days) entry → Room longest page
+    line-room room =
+        let kept = l.put.kept in
+        omega (arith, next-short)
+
+    -- and is put there
+    module _ {today : Totals} (t : today ≡ comes_to yearly (day_powers b d) totals.carry) where
+      pub few-counted : GroupValues b.values → today.count ≤ 100
+      few-counted sound = rw t (few-powers b d sound.whole)
+
+      pub count-room : totals.count + today.count ≤ 146_100
+      count-room =
+          let few = l.so_far.fits.few in
+          rw t (omega (arith, count-fits l.so_far e))
+
+      pub total-room : totals.total + today.total ≤ 146_100 * 10 ^ 9
+      total-room = rw t (total-fits l.so_far e)
+
+      pub line-put : {r : Totals} {after : Page} → Put (line kind (row_of d today.count today.total)) page after →
+          length (line kind (row_of d today.count today.total)) ≤ longest → Room (longest * days) entry → r ≡ together totals today →
+          LinesLeft line longest b yearly carry days first entry rest r after
+      line-put {r} {after} put short room h =
+          let row : row_of d today.count today.total ≡ day_row b yearly d totals.carry = rw (t, length-figures yearly (day_powers b d) totals.carry) in
+          let carry_is : r.carry ≡ last_carry yearly (day_powers b d) totals.carry = rw (h, t) in
+          let behind = l.put.behind in
+          let step = put.behind in
+          let next = next-short in
+          record {
+            done = l.done ++ day_powers b d;
+            so_far = day-done l.so_far e (h ∙ ap (together totals) t);
+            text = l.text ++ line kind (row_of d today.count today.total);
+            put = both l.put put (omega arith);
+            lines_left = rw (row, carry_is) (append_assoc l.text _ _ ∙ (rw e at l.lines_left));
+            short = omega arith;
+          }

@@ -1,43 +1,53 @@
--- `text_listing::list_days` meets its contract. The invariant: what is put and the lines of the days left come to the whole
--- (proofs/LineByLine.antt), and the entries in front of the place are earlier than the day.
-use native.Mathlib.Omega.{arith}
-use Rattle.calendar_dates.specs.Dates.{number_of}
-use Rattle.calendar_dates.proofs.NextDay.{next-day-counts}
-use Rattle.calendar_holidays.proofs.Holidays.{from_start, on-later-day}
-use Rattle.day_powers.specs.DayQuarters.{basis}
-use Rattle.series.proofs.DayByDay.{this-day}
-use Rattle.series_totals.proofs.DayByDay.{day-asked}
-use Rattle.text_listing.proofs.LineByLine.{begin, end, line-room, turn}
+-- `text_listing::list_days` meets its contract: a turn is one day (proofs/LineByLine.antt).
+use Rattle.std.proofs.Common.{arith}
+use Rattle.series_rows.specs.Rows.{row_of}
+use Rattle.series.proofs.DayByDay.{start, in-range, next-kind}
+use Rattle.text_listing.proofs.LineByLine.{none-put, all-put, line-room, few-counted, count-room, total-room, line-put}
 use Rattle.text_listing.proofs.list_days.Goals as goal
 
-pub loop-left-init : goal.loop-left-init
-loop-left-init c = (
-  begin c.args.form (basis c.args.values.now c.args.group c.args.holidays.now) c.requires.group_values c.requires.real_days c.requires.in_range c.requires.days_in_bounds,
-  from_start c.args.holidays.now (number_of c.args.first.date),
-)
+pub loop-day-init : goal.loop-day-init
+loop-day-init g c =
+    let days = c.days-day-items.ensures in
+    let p = c.args.period in
+    let zero = c.default.ensures in
+    rw (c.into_iter-day-iterator.ensures.into_iter_gives, days.value, zero.0, zero.1.0)
+    (none-put g.L.DayLine.line g.L.DayLine.longest (start c.args.basis.now days.group_values p.days p.first c.requires.in_range days.few days.real))
 
-pub number_of-requires : goal.number_of-requires
-number_of-requires c = (this-day c.loop-left.invariant.0.totals.days_left (omega arith)).real
+pub total_day-today-requires-clause-own_kind : goal.total_day-today-requires-clause-own_kind
+total_day-today-requires-clause-own_kind g c = next-kind c.loop-day.invariant.so_far c.in-Some.ensures.steps
 
-pub list_day-so_far-requires-clause-real_day : goal.list_day-so_far-requires-clause-real_day
-list_day-so_far-requires-clause-real_day c =
-    let reached = rw c.number_of.ensures at c.next_entry-place.ensures in
-    (day-asked c.loop-left.invariant.0.totals (omega arith) c.requires.holidays_value c.requires.in_range reached).0
+pub total_day-today-requires-clause-in_range : goal.total_day-today-requires-clause-in_range
+total_day-today-requires-clause-in_range g c = in-range c.loop-day.invariant.so_far
 
-pub list_day-so_far-requires-clause-day_room : goal.list_day-so_far-requires-clause-day_room
-list_day-so_far-requires-clause-day_room c = line-room c.loop-left.invariant.0 (omega arith)
+pub put-requires-clause-count_bound : goal.put-requires-clause-count_bound
+put-requires-clause-count_bound g c =
+    omega (arith, few-counted c.loop-day.invariant c.in-Some.ensures.steps c.total_day-today.ensures c.days-day-items.ensures.group_values)
 
-pub day_after-day-requires-clause-date_value : goal.day_after-day-requires-clause-date_value
-day_after-day-requires-clause-date_value c = (this-day c.loop-left.invariant.0.totals.days_left (omega arith)).real
+pub put-requires-clause-watt_hours_bound : goal.put-requires-clause-watt_hours_bound
+put-requires-clause-watt_hours_bound g c =
+    omega (arith, total-room c.loop-day.invariant c.in-Some.ensures.steps c.total_day-today.ensures)
 
-pub loop-left-preserved : goal.loop-left-preserved
-loop-left-preserved c =
-    let l = c.loop-left in
-    let real = (this-day l.invariant.0.totals.days_left (omega arith)).real in
-    let reached = rw c.number_of.ensures at c.next_entry-place.ensures in (
-      turn l.invariant.0 (omega arith) c.list_day-so_far.ensures c.day_after-day.ensures,
-      rw c.day_after-day.ensures (on-later-day (next-day-counts l.day.date real).later reached),
-    )
+pub put-requires-clause-room : goal.put-requires-clause-room
+put-requires-clause-room g c = line-room c.loop-day.invariant c.in-Some.ensures.steps c.requires.room
+
+pub and-so_far-requires-clause-count : goal.and-so_far-requires-clause-count
+and-so_far-requires-clause-count g c =
+    omega (arith, count-room c.loop-day.invariant c.in-Some.ensures.steps c.total_day-today.ensures)
+
+pub and-so_far-requires-clause-total : goal.and-so_far-requires-clause-total
+and-so_far-requires-clause-total g c =
+    omega (arith, total-room c.loop-day.invariant c.in-Some.ensures.steps c.total_day-today.ensures)
+
+pub loop-day-preserved : goal.loop-day-preserved
+loop-day-preserved g c =
+    let today = c.total_day-today.result in
+    let l = c.loop-day.invariant in
+    let steps = c.in-Some.ensures.steps in
+    let e = c.total_day-today.ensures in
+    let few = few-counted l steps e c.days-day-items.ensures.group_values in
+    let most = total-room l steps e in
+    let short = g.met.L.DayLine.within c.in-Some.kind (row_of c.in-Some.day today.count today.total) (omega arith) (omega arith) in
+    line-put l steps e c.put.ensures short c.requires.room c.and-so_far.ensures
 
 pub returns : goal.returns
-returns c = end c.loop-left.invariant.0 (omega arith)
+returns g c = all-put c.loop-day.invariant c.in-None.ensures.steps.0

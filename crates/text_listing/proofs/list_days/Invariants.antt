@@ -1,13 +1,8 @@
--- What each turn of the loop keeps, and what falls.
-use Rattle.calendar_dates.specs.Dates.{number_of}
-use Rattle.calendar_holidays.specs.Inside.{Passed}
-use Rattle.day_powers.specs.DayQuarters.{basis}
+-- The invariant: what is put and the lines of the days left come to the whole (proofs/LineByLine.antt).
 use Rattle.text_listing.proofs.LineByLine.{LinesLeft}
 use Rattle.text_listing.proofs.list_days.Given as goal
 
-abbrev pub invariant-loop-left : goal.invariant-loop-left
-invariant-loop-left l = LinesLeft l.form (basis l.values l.group l.holidays) l.yearly l.carry l.days l.initial.day.date l.initial.page l.day l.left l.so_far l.page
-    × Passed l.holidays l.place (number_of l.day.date)
-
-abbrev pub decreases-loop-left : goal.decreases-loop-left
-decreases-loop-left l = l.left
+abbrev pub invariant-loop-day : goal.invariant-loop-day
+invariant-loop-day g l =
+    LinesLeft g.L.DayLine.line g.L.DayLine.longest l.fn.basis l.fn.yearly l.fn.carry l.fn.period.days l.fn.period.first
+    l.fn.page l.day-iterator l.so_far l.page
