@@ -13,4 +13,4 @@ unfolding days_of
 of_days-requires-clause-real c =
     let from = c.day_number-from.ensures in
     let to = c.day_number-to.ensures in
-    rw (from.same, to.same) (all-between c.args.first c.args.last from.real to.real (omega (arith, from.same, to.same)))
+    λ k h. all-between c.args.first c.args.last from.real to.real (omega (arith, from.same, to.same)) k (omega (arith, from.same, to.same))
