@@ -1,38 +1,37 @@
 -- The lines put for an accepted request are its days' and the last one. Assumes nothing.
-use mathlib.Core.Path.{◌≡◌}
-use mathlib.Core.List.{List}
-use Prim.Native.Nat.{ℕ, ◌≤◌}
-use native.Mathlib.Omega.{arith}
-use lib.ListN.{length}
+use Rattle.std.proofs.Common.{◌≡◌, List, ℕ, arith}
 use Rattle.refusal.specs.Questions.{Pass}
 use Rattle.calendar_dates.specs.Dates.{date_of}
-use Rattle.calendar_period.specs.declared.CalendarDay.{CalendarDay}
-use Rattle.calendar_period.specs.Inside.{calendar_day}
+use Rattle.calendar_period.specs.Period.{PeriodDays, period_days}
+use Rattle.carry.specs.declared.Totals.{Totals}
+use Rattle.carry.specs.Energy.{powers}
+use Rattle.carry.proofs.Carry.{length-figures}
 use Rattle.file_group.specs.Group.{table_of}
 use Rattle.day_powers.specs.DayQuarters.{basis}
-use Rattle.call_request.specs.Request.{Request, days_in, request_check}
+use Rattle.series.specs.Inside.{comes_to}
+use Rattle.call_request.specs.Request.{Request, days_in, quarters, series, request_check}
 use Rattle.call_request.proofs.Sound.{sound}
 use Rattle.call_expand.specs.Expanding.{totals}
-use Rattle.call_rows.specs.Rows.{rows_of}
-use Rattle.call_rows.proofs.Rows.{totals-by-quarters}
-use Rattle.text.specs.Inside.{Put}
-use Rattle.text.proofs.Puts.{put-put}
+use Rattle.text.specs.declared.Page.{Page}
+use Rattle.text.specs.Inside.{Put, Room}
+use Rattle.text.proofs.Puts.{both}
 use Rattle.text_program_lines.specs.Lines.{day_line, last_line}
-use Rattle.text_listing.specs.declared.Form.TheVariants.{Program}
-use Rattle.text_listing.specs.declared.Lines.{Lines}
-use Rattle.text_listing.specs.Listing.{line_after_line}
+use Rattle.text_program_lines.specs.Lengths.{last-line-short}
 use Rattle.text_listing.specs.Inside.{Listed}
-use Rattle.text_listing.proofs.Listing.{last-line-short}
 use Rattle.program_answer.specs.Accepted.{accepted_lines, page_length}
 
--- an accepted request
+-- what a request's quarter hours come to are its totals
+request-totals : (q : Request) {t : Totals} → t ≡ comes_to q.yearly (powers (quarters q)) q.carry → t ≡ totals q
+unfolding series
+request-totals q h = rw (length-figures q.yearly (powers (quarters q)) q.carry) h
+
 module _ (q : Request) (passed : request_check q ≡ Pass) where
-  pub accepted : {values before middle after : List ℕ} {day : CalendarDay} {days s : ℕ} {r : Lines} → values ≡ table_of q.file q.group →
-      day ≡ calendar_day (date_of q.first) → days ≡ days_in q →
-      Listed Program (basis values q.group q.holidays) q.yearly q.carry days day.date before r middle →
-      Put (last_line days r.totals) middle r.at s after → page_length ≤ length before → Put (accepted_lines q) before 0 s after
-  accepted {before = before} {middle} {r = r} v e f l last room =
-      let lines = rw (v, e, f) at l in
-      let days : Put (line_after_line day_line q.holidays (rows_of q)) before 0 r.at middle = lines.lines in
+  pub accepted : {values : List ℕ} {period : PeriodDays} {t : Totals} {before middle after : Page} → values ≡ table_of q.file q.group →
+      period ≡ period_days (date_of q.first) (date_of q.last) →
+      Listed day_line 39 (basis values q.group q.holidays) q.yearly q.carry period.days period.first before t middle →
+      Put (last_line period.days t) middle after → Room page_length before → Put (accepted_lines q) before after
+  accepted v e l last room =
+      let days = rw (v, e) at l in
       let few = (sound q passed).period.short in
-      (put-put days (rw (f, totals-by-quarters q lines.totals) at last) (omega (arith, last-line-short (days_in q) (totals q))))
+      both days.lines (rw (e, request-totals q days.come_to) at last)
+      (omega (arith, days.lines.behind, days.short, last-line-short (days_in q) (totals q)))

@@ -1,2 +1,1 @@
 pub mod Accepted
-pub mod Answer

@@ -2,7 +2,6 @@
 use Rattle.std.specs.Prelude.{Ok, Err}
 use Rattle.std.specs.Prelude.{List, ℕ}
 use Rattle.refusal.specs.Questions.{Verdict}
-use Rattle.refusal.specs.Questions.{Pass}
 use Rattle.call_request.specs.Request.{Request}
 use Rattle.program_refusal.specs.Refused.{refused_line}
 use Rattle.program_answer.specs.Accepted.{accepted_lines}
