@@ -1,7 +1,7 @@
 // Series and carry (document 01): what days come to, where no figure is stored, with the carry handed from day to day.
 #![tactic(auto)]
 
-ghost use Rattle.std.specs.Prelude.{◌≡◌};
+ghost use Rattle.std.specs.Prelude.{◌≡◌, ◌*◌, ◌^◌, ◌≤◌};
 ghost use Rattle.calendar_days.specs.Days.{day_kind};
 ghost use Rattle.carry.specs.Energy.{powers};
 ghost use Rattle.day_powers.specs.DayQuarters.{day_quarters};
@@ -29,10 +29,11 @@ pub fn total_day(basis: &Basis, day: CalendarDay, kind: DayKind, yearly: u32, ca
     }
 }
 
-// What a period comes to, begun with a carry.
+// What a period comes to, begun with a carry: at most 10^9 Wh in each of the quarter hours of 1,461 days.
 pub fn total_days(basis: &Basis, period: Period, yearly: u32, carry: u32) -> Totals
     requires { InRange yearly carry }
-    ensures { result ≡ comes_to yearly (powers (quarters_of_days (day_quarters basis.now) period.days period.first)) carry }
+    ensures value { result ≡ comes_to yearly (powers (quarters_of_days (day_quarters basis.now) period.days period.first)) carry }
+    ensures small { result.total ≤ 146_100 * 10 ^ 9 }
 {
     let mut so_far = Totals {
         carry,

@@ -37,5 +37,11 @@ and-so_far-requires-clause-total c =
 pub loop-day-preserved : goal.loop-day-preserved
 loop-day-preserved c = day-summed c.loop-day.invariant c.in-Some.ensures.steps c.total_day-today.ensures c.and-so_far.ensures
 
-pub returns : goal.returns
-returns c = all-done c.loop-day.invariant.so_far c.in-None.ensures.steps.0
+pub returns-clause-value : goal.returns-clause-value
+returns-clause-value c = all-done c.loop-day.invariant.so_far c.in-None.ensures.steps.0
+
+pub returns-clause-small : goal.returns-clause-small
+returns-clause-small c =
+    let s = c.loop-day.invariant.so_far in
+    let total = ap (λ (t : Totals). t.total) (all-done s c.in-None.ensures.steps.0) in
+    omega (arith, s.fits.most)
