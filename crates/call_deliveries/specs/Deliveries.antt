@@ -9,6 +9,7 @@ use Rattle.calendar_period.specs.Period.{period_check}
 use Rattle.calendar_reading_periods.specs.ReadingPeriods.{readings_question, first_dates_question, ReadingPeriod, reading_periods}
 use Rattle.call_request.specs.Request.{Request, request, use_question, ahead_of_period}
 use Rattle.call_expand.specs.Expanding.{totals}
+use Rattle.call_deliveries.specs.declared.readings.Readings.{Readings}
 
 -- what a call is given: the lent file, the wanted group, the whole span's first and last date, the first dates of the "1 to 48 adjacent
 -- reading periods of one customer, their metered kWh", the holiday list, "the yearly use", and the lent output as it was before
@@ -36,6 +37,11 @@ deliveries file group first last starts metered holidays yearly output =
       yearly = yearly;
       output = output;
     }
+
+-- the same of a call's arguments, with the lent output as it was before
+abbrev pub asked : Readings → List ℤ → Deliveries
+asked call output =
+    deliveries call.file.now call.group call.first call.last call.starts.now call.metered.now call.holidays.now call.yearly output
 
 -- "the whole span's series": the request for it, begun with carry 0
 abbrev pub whole_span : Deliveries → Request

@@ -2,57 +2,36 @@
 // No series is stored: a period's energy is the sum of its days'.
 #![tactic(auto)]
 
+mod readings;
+
 ghost use Rattle.std.specs.Prelude.{◌≡◌, ◌++◌, ◌^◌, ◌≤◌, ◌<◌, length, drop};
-ghost use Rattle.calendar_reading_periods.specs.ReadingPeriods.{reading_periods};
-ghost use Rattle.calendar_reading_periods.specs.Inside.{PeriodsFrom};
-ghost use Rattle.carry.specs.Carry.{largest_carry};
-ghost use Rattle.day_powers.specs.DayQuarters.{basis};
-ghost use Rattle.series_totals.specs.Inside.{comes_to};
-ghost use Rattle.call_deliveries.specs.Deliveries.{deliveries, difference, behind_span, Delivers};
-ghost use Rattle.call_deliveries.specs.Inside.{period_at, powers_in, differences_from, Checked, Readings};
+ghost use Rattle.refusal.specs.Questions.{Pass, answered};
+ghost use Rattle.calendar_period.specs.Period.{period_check};
+ghost use Rattle.calendar_reading_periods.specs.Inside.{periods_of};
+ghost use Rattle.carry.specs.Carry.{largest_use};
+ghost use Rattle.call_deliveries.specs.Deliveries.{asked, difference, behind_span, Delivers};
+ghost use Rattle.call_deliveries.specs.Inside.{differences_from};
 
-use call_open::Opened;
-use carry::Totals;
+use calendar_reading_periods::Periods;
+pub use readings::Readings;
 use refusal::Refusal;
+use series::Basis;
 
-// What is asked behind the whole span: questions 17, 18, 9, 10 and 12.
-fn behind_span(
-    first: u32,
-    last: u32,
-    starts: &[u32],
-    values: usize,
-    holidays: &[u32],
-    yearly: u32,
-    room: usize,
-) -> Result<(), Refusal>
-    ensures { result ≡ behind_span first last starts.now values holidays.now yearly room }
+// What is asked behind the whole span, questions 17, 18, 9, 10 and 12, and the reading periods.
+fn behind_span<'a>(readings: Readings<'a>, room: usize) -> Result<Periods<'a>, Refusal>
+    requires { period_check readings.first readings.last ≡ Pass }
+    ensures { result ≡ answered
+        (behind_span readings.entry.first readings.entry.last readings.entry.starts.now
+        (length readings.entry.metered.now) readings.entry.holidays.now readings.entry.yearly room)
+        (periods_of readings.entry.last readings.entry.starts.now) }
 {
-    calendar_reading_periods::readings_question(starts.len(), values)?;
-    calendar_reading_periods::first_dates_question(first, last, starts)?;
-    calendar_holidays::holidays_question(holidays)?;
-    call_request::use_question(yearly)?;
-    refusal::room_question(starts.len(), room)
-}
-
-// What the period at an index comes to, begun with a carry: its total is the balanced energy.
-fn total_period(
-    values: &[u16],
-    group: u8,
-    starts: &[u32],
-    index: usize,
-    last: u32,
-    holidays: &[u32],
-    yearly: u32,
-    carry: u32,
-) -> Totals
-    requires checked { Checked values.now holidays.now yearly }
-    requires periods_from { PeriodsFrom last starts.now index }
-    requires carry_le_largest_carry { carry ≤ largest_carry }
-    ensures { result ≡ comes_to yearly (powers_in (basis values.now group holidays.now) (period_at last starts.now index)) carry }
-{
-    let period = calendar_reading_periods::period_at(starts, index, last);
-    let first = period.first;
-    series_totals::total_days(values, group, first, period.days, holidays, yearly, carry)
+    let starts = readings.starts;
+    calendar_reading_periods::readings_question(starts.len(), readings.metered.len())?;
+    let periods = Periods::new(readings.first, readings.last, starts)?;
+    calendar_holidays::holidays_question(readings.holidays)?;
+    call_request::use_question(readings.yearly)?;
+    refusal::room_question(starts.len(), room)?;
+    Ok(periods)
 }
 
 // Metered kWh less balanced Wh, in Wh.
@@ -65,60 +44,33 @@ fn difference_of(metered: u32, balanced: u64) -> i64
 }
 
 // Fills the first entries of the output with the differences and keeps those beyond. The carry runs through from 0.
-fn fill(
-    values: &[u16],
-    group: u8,
-    last: u32,
-    starts: &[u32],
-    metered: &[u32],
-    holidays: &[u32],
-    yearly: u32,
-    out: &mut [i64],
-)
-    requires checked { Checked values.now holidays.now yearly }
-    requires readings { Readings last starts.now metered.now out.old }
-    ensures { out.new
-        ≡ differences_from (basis values.now group holidays.now) yearly
-        metered.now (reading_periods last starts.now) 0
-        ++ drop (length starts.now) out.old }
+fn fill(basis: &Basis, periods: Periods, metered: &[u32], yearly: u32, out: &mut [i64])
+    requires yearly_small { yearly ≤ largest_use }
+    requires same { length metered.now ≡ length periods }
+    requires room { length periods ≤ length out.old }
+    ensures { out.new ≡ differences_from basis.now yearly metered.now periods.entry 0 ++ drop (length metered.now) out.old }
 {
     let mut carry: u32 = 0;
-    let mut at: usize = 0;
-    while at < starts.len() {
-        let balanced = total_period(values, group, starts, at, last, holidays, yearly, carry);
-        out[at] = difference_of(metered[at], balanced.total);
+    for (i, period) in periods.enumerate() {
+        let balanced = series_totals::total_days(basis, period, yearly, carry);
+        out[i] = difference_of(metered[i], balanced.total);
         carry = balanced.carry;
-        at += 1;
     }
 }
 
 // Fills the output from its start with a difference for each reading period and keeps what is beyond; a refusal changes nothing.
-pub fn differences(
-    file: &[u8],
-    group: u8,
-    first: u32,
-    last: u32,
-    starts: &[u32],
-    metered: &[u32],
-    holidays: &[u32],
-    yearly: u32,
-    out: &mut [i64],
-) -> Result<(), Refusal>
-    ensures { Delivers
-        (deliveries file.now group first last starts.now metered.now holidays.now yearly out.old)
-        result out.new }
+pub fn differences(readings: Readings, out: &mut [i64]) -> Result<(), Refusal>
+    ensures { Delivers (asked readings.entry out.old) result out.new }
 {
-    let opening = call_open::open_period(file, group, first, last)?;
-    behind_span(
-        first,
-        last,
-        starts,
-        metered.len(),
-        holidays,
-        yearly,
-        out.len(),
+    let opening = call_open::open_period(
+        readings.file,
+        readings.group,
+        readings.first,
+        readings.last,
     )?;
-    let values = file_read::table_at(file, opening.at);
-    fill(&values, group, last, starts, metered, holidays, yearly, out);
+    let periods = behind_span(readings, out.len())?;
+    let values = file_read::table_at(readings.file, opening.at);
+    let basis = Basis::new(&values, readings.group, readings.holidays);
+    fill(&basis, periods, readings.metered, readings.yearly, out);
     Ok(())
 }

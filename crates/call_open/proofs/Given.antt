@@ -21,12 +21,12 @@ use Rattle.call_open.specs.declared.Opening.{Opening}
 use Rattle.call_open.specs.Inside.{opening}
 
 -- what an answer tells of the questions asked
-pub opened-refused : (v : Verdict) (given : Opening) {r : Refusal} → Err r ≡ answered v given → v ≡ Err r
+pub opened-refused : {A : Type 0} (v : Verdict) (given : A) {r : Refusal} → Err r ≡ answered v given → v ≡ Err r
 opened-refused (Ok _) given h = let z : ◌≡◌ {A = ℕ} 0 1 = cc in absurd (omega arith)
 opened-refused (Err r) given h = cc
 
-opened-request : (v : Verdict) {o given : Opening} → Ok o ≡ answered v given → (v ≡ Pass) × (o ≡ given)
-opened-request (Ok _) h = (refl, cc)
+pub opened-request : {A : Type 0} (v : Verdict) {o given : A} → Ok o ≡ answered v given → (v ≡ Pass) × (o ≡ given)
+opened-request (Ok _) {o} {given} h = let e : o ≡ given = cc in (refl, e)
 opened-request (Err r) h = let z : ◌≡◌ {A = ℕ} 0 1 = cc in absurd (omega arith)
 
 -- a group's values in an accepted file: 864, none above 20,000

@@ -19,6 +19,7 @@ ghost use Rattle.call_page.specs.Page.{Reports as PageReports};
 ghost use Rattle.program_response.specs.Responding.{response_to, page_after as response_after, reported as reported_response};
 
 use call_day::DayReport;
+use call_deliveries::Readings;
 use call_expansion::ExpansionReport;
 use call_holidays::HolidaysReport;
 use call_request::Request;
@@ -130,9 +131,17 @@ pub extern "C" fn slp_deliveries(
         (deliveries file.now group first last starts.now metered.now holidays.now yearly out.old)
         result out.new }
 {
-    CheckReport::from(call_deliveries::differences(
-        file, group, first, last, starts, metered, holidays, yearly, out,
-    ))
+    let readings = Readings {
+        file,
+        group,
+        first,
+        last,
+        starts,
+        metered,
+        holidays,
+        yearly,
+    };
+    CheckReport::from(call_deliveries::differences(readings, out))
 }
 
 // The day page.

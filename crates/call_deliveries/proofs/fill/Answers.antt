@@ -1,21 +1,27 @@
--- `call_deliveries::fill` meets its contract. The invariant: what is stored and the differences of the periods left come to the whole
--- (proofs/Filling.antt).
-use mathlib.Core.Path.{refl, ◌∙◌}
+-- `call_deliveries::fill` meets its contract: a turn is one period (proofs/Filling.antt).
+use mathlib.Core.Path.{◌∙◌}
 use native.Mathlib.Omega.{arith}
 use mir.Facts.{to_z-of_z}
 use mir.Syntax.{w64}
 use borrow.Author.Rules.{sfits_of}
-use Rattle.call_deliveries.proofs.Filling.{total-small, turn, end}
+use Rattle.call_deliveries.proofs.Filling.{length-differences, begin, turn, end}
 use Rattle.call_deliveries.proofs.fill.Goals as goal
 
-pub difference_of-requires : goal.difference_of-requires
-difference_of-requires c =
-    total-small c.requires.checked c.requires.readings c.loop-at.invariant (omega arith) c.total_period-balanced.ensures
+pub loop-i-init : goal.loop-i-init
+loop-i-init c =
+    rw (c.into_iter-i-iterator.ensures.into_iter_gives, c.enumerate-i-items.ensures.source, c.enumerate-i-items.ensures.count)
+    (begin c.requires.same c.requires.yearly_small)
 
-pub loop-at-preserved : goal.loop-at-preserved
-loop-at-preserved c =
-    turn c.requires.checked c.requires.readings c.loop-at.invariant (omega arith) c.total_period-balanced.ensures
-    (to_z-of_z {w = w64} (sfits_of c.difference_of.type_inv) ∙ c.difference_of.ensures) refl
+pub total_days-balanced-requires : goal.total_days-balanced-requires
+total_days-balanced-requires c = c.loop-i.invariant.range
+
+pub loop-i-preserved : goal.loop-i-preserved
+loop-i-preserved c =
+    let steps = c.in-Some.ensures.steps in
+    let stored = to_z-of_z {w = w64} (sfits_of c.difference_of.type_inv) ∙ c.difference_of.ensures in
+    rw (steps.1, steps.2) (turn c.loop-i.invariant steps.0 c.total_days-balanced.ensures.value (rw steps.1 at stored))
 
 pub returns : goal.returns
-returns c = end c.requires.checked c.requires.readings c.loop-at.invariant (omega arith)
+returns c =
+    let n = length-differences c.args.basis.now c.args.yearly c.args.metered.now c.args.periods 0 c.requires.same in
+    end c.loop-i.invariant c.in-None.ensures.steps.0.0 n (omega (arith, c.requires.same, c.requires.room))

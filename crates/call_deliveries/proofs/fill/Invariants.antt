@@ -1,12 +1,9 @@
--- What each turn of the loop keeps, and what falls.
-use Prim.Native.Nat.{◌-◌}
-use lib.ListN.{length}
-use Rattle.day_powers.specs.DayQuarters.{basis}
+-- The invariant: what is stored and the differences of the periods left come to the whole (proofs/Filling.antt).
+use Rattle.call_deliveries.specs.Inside.{differences_from}
 use Rattle.call_deliveries.proofs.Filling.{Left}
 use Rattle.call_deliveries.proofs.fill.Given as goal
 
-abbrev pub invariant-loop-at : goal.invariant-loop-at
-invariant-loop-at l = Left (basis l.values l.group l.holidays) l.yearly l.last l.starts l.metered l.initial.out l.out l.at l.carry
-
-abbrev pub decreases-loop-at : goal.decreases-loop-at
-decreases-loop-at l = length l.starts - l.at
+abbrev pub invariant-loop-i : goal.invariant-loop-i
+invariant-loop-i l =
+    Left l.basis l.yearly l.metered (differences_from l.basis l.yearly l.metered l.fn.periods 0) l.initial.out l.out l.i-iterator.count l.carry
+    l.i-iterator.iter

@@ -1,0 +1,13 @@
+// What a call is given but its output: the lent file, the wanted group, the whole span's first and last date, the first dates of the
+// reading periods, their metered kWh, the holiday list and the yearly use A in kWh.
+#[derive(Clone, Copy)]
+pub struct Readings<'a> {
+    pub file: &'a [u8],
+    pub group: u8,
+    pub first: u32,
+    pub last: u32,
+    pub starts: &'a [u32],
+    pub metered: &'a [u32],
+    pub holidays: &'a [u32],
+    pub yearly: u32,
+}
