@@ -81,7 +81,7 @@ fn declares(source: &str, name: &str) -> bool {
         .filter(|word| !word.is_empty())
         .collect();
     words.windows(2).any(|pair| {
-        ["fn", "struct", "enum", "const", "mod"].contains(&pair[0])
+        ["fn", "struct", "enum", "trait", "type", "const", "mod"].contains(&pair[0])
             && match name.strip_suffix("..") {
                 Some(beginning) => pair[1].starts_with(beginning),
                 None => pair[1] == name,
