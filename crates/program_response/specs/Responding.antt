@@ -4,7 +4,6 @@ use Rattle.refusal.specs.Questions.{answered}
 use Rattle.std.specs.Prelude.{Result, Ok, Err}
 use Rattle.std.specs.Prelude.{List, ℕ, length}
 use Rattle.refusal.specs.Questions.{Verdict}
-use Rattle.refusal.specs.Questions.{Pass}
 use Rattle.refusal.specs.Questions.{refusal_number, refusal_place, room_question, lent_after}
 use Rattle.program_text.specs.Printed.{printed}
 use Rattle.program_response.specs.declared.ResponseReport.{ResponseReport}

@@ -3,68 +3,56 @@
 
 ghost use Rattle.std.specs.Prelude.{◌≡◌};
 ghost use Rattle.program_response.specs.Responding.{response_to, page_after, reported};
-ghost use Rattle.program_response.specs.Inside.{Answers};
 
 use refusal::Refusal;
+use text::Page;
 
 // The room that is enough for every input.
 pub const PAGE_LENGTH: usize = 65_536;
 
-// How many bytes were put at the start of the page, or that it has too little room for them.
-#[derive(Clone, Copy)]
-pub enum Response {
-    Written(usize),
-    Refused(Refusal),
-}
-
 // The answer in numbers: number and place, 0 when the text was written, and its length, 0 when refused.
+// Kept: the C interface has a struct of this name for it, and another, of the same fields, for the holidays of a year.
 #[repr(C)]
-#[derive(Clone, Copy)]
+#[derive(Clone, Copy, Default)]
 pub struct ResponseReport {
     pub number: u32,
     pub place: usize,
     pub length: usize,
 }
 
-// Puts lines at the start of the page, where it has room for them, and keeps what is beyond.
-fn put_lines(lines: &[u8], page: &mut [u8]) -> Result<usize, Refusal>
-    ensures { Answers lines.now page.old result page.new }
-{
-    refusal::room_question(lines.len(), page.len())?;
-    Ok(text::put_word(lines, page, 0))
+impl From<Result<usize, Refusal>> for ResponseReport {
+    ghost from_gives = { λ answer report. report ≡ reported answer };
+
+    fn from(answer: Result<usize, Refusal>) -> ResponseReport {
+        match answer {
+            Ok(length) => ResponseReport {
+                length,
+                ..ResponseReport::default()
+            },
+            Err(refusal) => ResponseReport {
+                number: refusal.number(),
+                place: refusal.place(),
+                ..ResponseReport::default()
+            },
+        }
+    }
 }
 
-// Puts what the program prints for an input at the start of the page, where it has room for it, and keeps what is beyond.
+// Puts what the program prints for an input at the start of the page, where it has room for it, and keeps what is beyond. Answers how
+// many bytes were put, or that there is too little room for them.
 pub fn respond(input: &[u8], page: &mut [u8]) -> Result<usize, Refusal>
     ensures value { result ≡ response_to input.now page.old }
     ensures result_value { reported result ≡ reported (response_to input.now page.old) }
     ensures page_after { page.new ≡ page_after input.now page.old }
 {
-    let mut lines = [0u8; PAGE_LENGTH];
-    let length = program_text::put_text(input, &mut lines);
-    put_lines(&lines[0..length], page)
-}
-
-fn report_refusal(refusal: Refusal) -> ResponseReport
-    ensures { result ≡ reported (Err refusal) }
-{
-    ResponseReport {
-        number: refusal.number(),
-        place: refusal.place(),
-        length: 0,
-    }
-}
-
-// The answer in numbers.
-pub fn report(answer: Result<usize, Refusal>) -> ResponseReport
-    ensures { result ≡ reported answer }
-{
-    match answer {
-        Ok(length) => ResponseReport {
-            number: 0,
-            place: 0,
-            length,
-        },
-        Err(refusal) => report_refusal(refusal),
-    }
+    let mut lines = [0; PAGE_LENGTH];
+    let mut text = Page {
+        bytes: &mut lines,
+        at: 0,
+    };
+    program_text::put_text(input, &mut text);
+    let length = text.at;
+    refusal::room_question(length, page.len())?;
+    page[..length].copy_from_slice(&lines[..length]);
+    Ok(length)
 }
