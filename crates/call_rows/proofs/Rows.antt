@@ -22,13 +22,13 @@ use Rattle.calendar_laws.proofs.Periods.{period-days}
 use Rattle.carry.specs.declared.Totals.{Totals}
 use Rattle.carry.specs.Carry.{figures, last_carry}
 use Rattle.carry.specs.Energy.{Quarter, powers}
-use Rattle.carry.proofs.Carry.{carry-append, carry-small}
+use Rattle.carry.proofs.Carry.{carry-append, carry-small, length-figures}
 use Rattle.day_powers.specs.DayQuarters.{Basis, day_quarters}
 use Rattle.series.specs.Series.{quarters_of_days}
+use Rattle.series.specs.Inside.{comes_to}
 use Rattle.series.proofs.Series.{quarters-add}
 use Rattle.call_request.specs.Request.{Request, days_in, basis_of, quarters, series, request_check}
 use Rattle.call_request.proofs.Sound.{Sound, sound, passes, series-length}
-use Rattle.call_expansion.specs.Answered.{Expansion}
 use Rattle.call_expand.specs.Expanding.{expand_check, totals, expansion, lent}
 use Rattle.call_expand.proofs.Expanding.{expanded-in}
 use Rattle.series_rows.specs.Rows.{Row, row_of, day_row, rows}
@@ -42,11 +42,10 @@ module _ (q : Request) (output : List ℕ) where
   unfolding expansion expand_check
   refusal r h = ap (λ v. answered (v then room_question (length (series (lent q output))) (length output)) (totals (lent q output))) h
 
--- totals by the request's quarter hours are those of its series
-pub totals-by-quarters : (q : Request) {t : Totals} →
-    t ≡ record { count = length (quarters q); total = sum (figures q.yearly (powers (quarters q)) q.carry); carry = last_carry q.yearly (powers (quarters q)) q.carry } → t ≡ totals q
+-- what the request's quarter hours come to are its totals
+pub quarters-come-to : (q : Request) {t : Totals} → t ≡ comes_to q.yearly (powers (quarters q)) q.carry → t ≡ totals q
 unfolding series
-totals-by-quarters q h = rw (series-length q) h
+quarters-come-to q h = rw (length-figures q.yearly (powers (quarters q)) q.carry) h
 
 -- the quarter hours of a period of one day
 module _ (b : Basis) where

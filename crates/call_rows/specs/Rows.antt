@@ -11,7 +11,6 @@ use Rattle.carry.specs.Energy.{powers}
 use Rattle.day_powers.specs.DayQuarters.{day_quarters}
 use Rattle.series.specs.Series.{quarters_of_days}
 use Rattle.call_request.specs.Request.{Request, request, days_in, basis_of, request_check}
-use Rattle.call_expansion.specs.Answered.{Expansion}
 use Rattle.call_expand.specs.Expanding.{totals, expansion, lent, IsExpanded}
 use Rattle.series_rows.specs.Rows.{Row, row_of, rows}
 
