@@ -1,14 +1,11 @@
 -- Document 02, (e), "A day page of fixed width": what is asked of a call, what it answers, and what it leaves on the lent page, accepted
 -- and refused. "Expanding's arguments": a `Request`, with the lent page as it was before for its output.
-use Rattle.refusal.specs.Questions.{answered}
 use Rattle.std.specs.Prelude.{◌≡◌, List, ◌++◌, ℕ, ◌+◌, ◌*◌, leb, length}
 use Rattle.refusal.specs.declared.Refusal.TheVariants.{ShortPage}
-use Rattle.refusal.specs.Questions.{Verdict}
-use Rattle.refusal.specs.Questions.{ask, ◌then◌, lent_after}
+use Rattle.refusal.specs.Questions.{Verdict, answered, ask, ◌then◌, lent_after}
 use Rattle.call_request.specs.Request.{Request, days_in, request_check}
-use Rattle.call_expansion.specs.Answered.{Expansion}
 use Rattle.call_expansion.specs.declared.ExpansionReport.{ExpansionReport}
-use Rattle.call_expansion.specs.Answered.{reported}
+use Rattle.call_expansion.specs.Answered.{Expansion, reported}
 use Rattle.call_expand.specs.Expanding.{totals}
 use Rattle.call_rows.specs.Rows.{rows_of}
 use Rattle.text_page_lines.specs.PageLines.{day_type_width, line_length, day_page_line, last_page_line}

@@ -3,15 +3,18 @@
 #![tactic(auto)]
 
 ghost use Rattle.std.specs.Prelude.{◌≡◌};
-ghost use Rattle.call_request.specs.Request.{request};
+ghost use Rattle.call_request.specs.Request.{asked};
 ghost use Rattle.call_page.specs.Page.{page_question, Prints};
 
 use call_expansion::Expansion;
-use call_open::Opened;
+use call_request::Request;
 use refusal::Refusal;
-use text_listing::Form;
+use series::Basis;
+use text::Page;
+use text_page_lines::PageLine;
 
 // Question 19, of a page with `room` bytes for the lines of some days and the last one.
+#[tactic(auto, unfolding(crate::specs::Page::page_question))]
 fn page_question(days: u32, room: usize) -> Result<(), Refusal>
     ensures { result ≡ page_question days room }
 {
@@ -24,36 +27,21 @@ fn page_question(days: u32, room: usize) -> Result<(), Refusal>
 
 // Fills the page from its start with the lines of the period's days and the last one, and keeps what is beyond; a refusal changes
 // nothing. Answers what expanding answers.
-pub fn day_page(
-    file: &[u8],
-    group: u8,
-    first: u32,
-    last: u32,
-    holidays: &[u32],
-    yearly: u32,
-    carry: u32,
-    page: &mut [u8],
-) -> Expansion
-    ensures { Prints
-        (request file.now group first last holidays.now yearly carry page.old) result page.new }
+pub fn day_page(request: Request, page: &mut [u8]) -> Expansion
+    ensures { Prints (asked request.entry page.old) result page.new }
 {
-    let opening = call_open::open(file, group, first, last, holidays, yearly, carry)?;
-    let day = opening.first;
-    let days = opening.days;
-    page_question(days, page.len())?;
-    let values = file_read::table_at(file, opening.at);
-    let lines = text_listing::list_days(
-        Form::Page,
-        &values,
-        group,
-        day,
-        days,
-        holidays,
-        yearly,
-        carry,
-        page,
+    let opening = call_open::open(request)?;
+    page_question(opening.period.days(), page.len())?;
+    let values = file_read::table_at(request.file, opening.at);
+    let basis = Basis::new(&values, request.group, request.holidays);
+    let mut lines = Page { bytes: page, at: 0 };
+    let totals = text_listing::list_days::<PageLine>(
+        &basis,
+        opening.period,
+        request.yearly,
+        request.carry,
+        &mut lines,
     );
-    let totals = lines.totals;
-    text_page_lines::put_last_line(totals, page, lines.at);
+    text_page_lines::put_last_line(totals, &mut lines);
     Ok(totals)
 }

@@ -1,13 +1,7 @@
 -- `call_page::day_page` meets its contract: each refusal changes nothing, and else the lines of the days and the last one fill the page.
-use mathlib.Core.Path.{◌≡◌, sym, ◌∙◌}
-use Prim.Native.Nat.{◌≤◌}
-use native.Mathlib.Omega.{arith}
-use lib.ListN.{length}
-use borrow.Author.Rules.{rules}
-use Rattle.refusal.specs.Questions.{Verdict}
-use Rattle.refusal.specs.Questions.{Pass}
-use Rattle.file_group.proofs.Group.{values-inside}
-use Rattle.call_request.specs.Request.{Request, request, days_in}
+use Rattle.std.proofs.Common.{◌≡◌, refl, sym, ◌∙◌, ℕ, ◌≤◌, length, Err, arith, rules}
+use Rattle.refusal.specs.Questions.{Verdict, Pass}
+use Rattle.call_request.specs.Request.{Request, asked, days_in}
 use Rattle.call_open.specs.declared.Opening.{Opening}
 use Rattle.call_open.proofs.Given.{opened-refused, OpenedFor, opened-for, table_is, group-values}
 use Rattle.call_page.specs.Page.{bytes_needed, page_question}
@@ -15,82 +9,54 @@ use Rattle.call_page.proofs.Page.{page-passed, request-refused, page-refused, pr
 use Rattle.call_page.proofs.day_page.Goals as goal
 
 -- question 19 of an opened request, as its days ask it; where it passed, the lines have room
-module _ (q : Request) {o : Opening} (opened : OpenedFor q o) {v : Verdict} (asked : v ≡ page_question o.days (length q.output)) where
+module _ (q : Request) {o : Opening} (opened : OpenedFor q o) {days : ℕ} (counted : days ≡ o.period.days) {v : Verdict}
+    (asks : v ≡ page_question days (length q.output)) where
   question : v ≡ page_question (days_in q) (length q.output)
-  question = rw (← opened.count) asked
+  question = rw (counted, opened.period) at asks
 
-  room : v ≡ Pass → bytes_needed (days_in q) ≤ length q.output
-  room passed = page-passed _ _ (sym question ∙ passed)
+  room : v ≡ Pass → bytes_needed o.period.days ≤ length q.output
+  room passed = rw counted at (page-passed _ _ (sym asks ∙ passed))
 
-pub returns-in-Refused : goal.returns-in-Refused
-returns-in-Refused c = request-refused _ (opened-refused _ _ c.in-Refused.ensures)
+pub returns-in_err-opening : goal.returns-in_err-opening
+returns-in_err-opening c =
+    let e : c.from_residual.result ≡ Err c.in_err-opening.field-0.0 = search rules in
+    request-refused _ e (opened-refused _ _ c.in_err-opening.ensures.value)
 
-pub returns-in-Refused-page_question : goal.returns-in-Refused-page_question
-returns-in-Refused-page_question c =
-    let q = request c.args.file.now c.args.group c.args.first c.args.last c.args.holidays.now c.args.yearly c.args.carry c.args.page.now in
-    let o = opened-for q c.in-Open.ensures in
-    page-refused q o.passed (sym (question q o c.in-Refused-page_question.ensures))
+pub returns-in_err-page_question : goal.returns-in_err-page_question
+returns-in_err-page_question c =
+    let q = asked c.args.request c.args.page.now in
+    let o = opened-for q c.in_ok-opening.ensures.value in
+    let e : c.from_residual-in_err-page_question.result ≡ Err c.in_err-page_question.field-0.0 = search rules in
+    page-refused q e o.passed (sym (question q o c.days.ensures.same c.in_err-page_question.ensures))
 
-pub table_at-values-requires-clause-laid_out : goal.table_at-values-requires-clause-laid_out
-table_at-values-requires-clause-laid_out c =
-    let q = request c.args.file.now c.args.group c.args.first c.args.last c.args.holidays.now c.args.yearly c.args.carry c.args.page.now in
-    let o = opened-for q c.in-Open.ensures in
-    (values-inside _ _ o.found).0
+pub new-basis-requires-clause-group_values : goal.new-basis-requires-clause-group_values
+new-basis-requires-clause-group_values c =
+    let q = asked c.args.request c.args.page.now in
+    group-values q (opened-for q c.in_ok-opening.ensures.value) c.table_at-values.ensures
 
-pub table_at-values-requires-clause-file_in_bounds : goal.table_at-values-requires-clause-file_in_bounds
-table_at-values-requires-clause-file_in_bounds c =
-    let q = request c.args.file.now c.args.group c.args.first c.args.last c.args.holidays.now c.args.yearly c.args.carry c.args.page.now in
-    let o = opened-for q c.in-Open.ensures in
-    (values-inside _ _ o.found).1
+pub list_days-totals-requires-clause-in_range : goal.list_days-totals-requires-clause-in_range
+list_days-totals-requires-clause-in_range c =
+    let s = (opened-for (asked c.args.request c.args.page.now) c.in_ok-opening.ensures.value).sound in
+    record { yearly_small = s.yearly; carry_small = omega (arith, s.carry) }
 
-pub list_days-lines-requires-clause-group_values : goal.list_days-lines-requires-clause-group_values
-list_days-lines-requires-clause-group_values c =
-    let q = request c.args.file.now c.args.group c.args.first c.args.last c.args.holidays.now c.args.yearly c.args.carry c.args.page.now in
-    let o = opened-for q c.in-Open.ensures in
-    group-values q o c.table_at-values.ensures
+pub list_days-totals-requires-clause-room : goal.list_days-totals-requires-clause-room
+list_days-totals-requires-clause-room c =
+    let q = asked c.args.request c.args.page.now in
+    let o = opened-for q c.in_ok-opening.ensures.value in
+    omega (arith, room q o c.days.ensures.same c.in_ok-page_question.ensures refl)
 
-pub list_days-lines-requires-clause-real_days : goal.list_days-lines-requires-clause-real_days
-list_days-lines-requires-clause-real_days c =
-    let q = request c.args.file.now c.args.group c.args.first c.args.last c.args.holidays.now c.args.yearly c.args.carry c.args.page.now in
-    let o = opened-for q c.in-Open.ensures in
-    o.real
-
-pub list_days-lines-requires-clause-holidays_value : goal.list_days-lines-requires-clause-holidays_value
-list_days-lines-requires-clause-holidays_value c =
-    let q = request c.args.file.now c.args.group c.args.first c.args.last c.args.holidays.now c.args.yearly c.args.carry c.args.page.now in
-    let o = opened-for q c.in-Open.ensures in
-    o.sound.holidays
-
-pub list_days-lines-requires-clause-in_range : goal.list_days-lines-requires-clause-in_range
-list_days-lines-requires-clause-in_range c =
-    let q = request c.args.file.now c.args.group c.args.first c.args.last c.args.holidays.now c.args.yearly c.args.carry c.args.page.now in
-    let o = opened-for q c.in-Open.ensures in
-    let s = o.sound in
-    record { yearly_small = s.yearly; carry_small = s.carry }
-
-pub list_days-lines-requires-clause-days_in_bounds : goal.list_days-lines-requires-clause-days_in_bounds
-list_days-lines-requires-clause-days_in_bounds c =
-    let q = request c.args.file.now c.args.group c.args.first c.args.last c.args.holidays.now c.args.yearly c.args.carry c.args.page.now in
-    let o = opened-for q c.in-Open.ensures in
-    omega (arith, room q o c.page_question.ensures (search rules), o.count)
-
-pub put_last_line-requires-clause-count_bound : goal.put_last_line-requires-clause-count_bound
-put_last_line-requires-clause-count_bound c = let l = c.list_days-lines.ensures in omega (arith, l.few)
-
-pub put_last_line-requires-clause-total_bound : goal.put_last_line-requires-clause-total_bound
-put_last_line-requires-clause-total_bound c = let l = c.list_days-lines.ensures in omega (arith, l.most)
-
-pub put_last_line-requires-clause-day_type_width_in_bounds : goal.put_last_line-requires-clause-day_type_width_in_bounds
-put_last_line-requires-clause-day_type_width_in_bounds c =
-    let q = request c.args.file.now c.args.group c.args.first c.args.last c.args.holidays.now c.args.yearly c.args.carry c.args.page.now in
-    let o = opened-for q c.in-Open.ensures in
-    let l = c.list_days-lines.ensures in
-    omega (arith, l.short, room q o c.page_question.ensures (search rules), o.count)
+pub put_last_line-requires-clause-room : goal.put_last_line-requires-clause-room
+put_last_line-requires-clause-room c =
+    let q = asked c.args.request c.args.page.now in
+    let o = opened-for q c.in_ok-opening.ensures.value in
+    let l = c.list_days-totals.ensures in
+    omega (arith, l.short, l.lines.kept, room q o c.days.ensures.same c.in_ok-page_question.ensures refl)
 
 pub returns : goal.returns
 returns c =
-    let q = request c.args.file.now c.args.group c.args.first c.args.last c.args.holidays.now c.args.yearly c.args.carry c.args.page.now in
-    let o = opened-for q c.in-Open.ensures in
-    let passed : c.page_question.result ≡ Pass = search rules in
-    printed q o.passed (sym (question q o c.page_question.ensures) ∙ passed) (table_is q o c.table_at-values.ensures) o.day o.count
-    c.list_days-lines.ensures c.put_last_line.ensures
+    let q = asked c.args.request c.args.page.now in
+    let o = opened-for q c.in_ok-opening.ensures.value in
+    let l = c.list_days-totals.ensures in
+    let same = l.lines.same_page in
+    printed q o.passed (sym (question q o c.days.ensures.same c.in_ok-page_question.ensures)) refl refl
+    (rw (c.new-basis.ensures, table_is q o c.table_at-values.ensures, o.period) at l) c.put_last_line.ensures (search rules)
