@@ -1,6 +1,6 @@
 -- The worked periods and questions, by computation. Assumes nothing.
 use mathlib.Core.Path.{refl}
-use Rattle.refusal.specs.Questions.{ask, ◌then◌, ask_each}
+use Rattle.refusal.specs.Questions.{ask_each}
 use Rattle.calendar_dates.specs.Dates.{leap_days, month_length, is_date, days_of_months, day_of_year, days_of_years, day_number, next_day, days_later}
 use Rattle.calendar_reading_periods.specs.ReadingPeriods.{readings_question, first_date_question, first_dates_question, end_of, reading_periods}
 use Rattle.claim_deliveries.specs.WorkedPeriods.{WorkedPeriods}
