@@ -22,7 +22,8 @@ use Rattle.call_rows.specs.Rows.{rows_of}
 use Rattle.text.proofs.Text.{decimal-most}
 use Rattle.text_program_lines.specs.Lines.{day_line, last_line}
 use Rattle.text_listing.specs.Listing.{line_after_line}
-use Rattle.text_listing.proofs.Listing.{last-line-short, lines-short}
+use Rattle.text_program_lines.specs.Lengths.{day-line-short, last-line-short}
+use Rattle.text_listing.proofs.Listing.{lines-short}
 use Rattle.program_input.specs.Input.{input_question, request_in}
 use Rattle.program_refusal.specs.Refused.{refused_line}
 use Rattle.program_answer.specs.Accepted.{page_length}
@@ -40,7 +41,7 @@ lines-room : (q : Request) (v : Verdict) → (v ≡ Pass → request_check q ≡
 unfolding lines_for refused_line
 lines-room q (Ok _) h =
     let days = (sound q (h refl)).period.short in
-    let lines = lines-short (basis_of q) q.yearly (days_in q) (date_of q.first) q.carry (values-of-table q) in
+    let lines = lines-short day_line 39 (λ kind row few. day-line-short kind row few) (basis_of q) q.yearly (days_in q) (date_of q.first) q.carry (values-of-table q) in
     omega (arith, lines, days, last-line-short (days_in q) (totals q), length-append (line_after_line day_line q.holidays (rows_of q)) (last_line (days_in q) (totals q)))
 lines-room q (Err r) h = simp length-append (omega (arith, decimal-most (refusal_number r), decimal-most (refusal_place r)))
 
@@ -51,9 +52,9 @@ enough-room input =
     lines-room q (input_question input then request_check q) (then_next (input_question input) (request_check q))
 
 -- so a page of that length has room for every response, and one that was written lies on its page
-pub inside : (input page : List ℕ) {answer : Response} {n : ℕ} → answer ≡ response_to input page → answer ≡ Written n → n ≤ length page
+pub inside : (input page : List ℕ) {answer : Response} {n : ℕ} → answer ≡ response_to input page → answer ≡ Ok n → n ≤ length page
 inside input page e w = from (response_check input (length page)) refl (sym w ∙ e)
   where
-    from : {n : ℕ} (v : Verdict) → response_check input (length page) ≡ v → Written n ≡ answered v (length (printed input)) → n ≤ length page
+    from : {n : ℕ} (v : Verdict) → response_check input (length page) ≡ v → Ok n ≡ answered v (length (printed input)) → n ≤ length page
     from {n} (Ok _) p h = let same : n ≡ length (printed input) = cc in omega (arith, room-passed _ _ p)
-    from {n} (Err r) p h = let z : ◌≡◌ {A = ℕ} 0 1 = cc in absurd (omega arith)
+    from {n} (Err r) p h = cc
