@@ -1,6 +1,6 @@
 -- What is read on the page after an accepted call: its lines lie one after the other (proofs/Lines.antt), what is written in a field is
 -- read there (proofs/ReadBack.antt), and a request's rows add up to its totals. Assumes nothing.
-use Rattle.refusal.specs.Questions.{answered}
+use Rattle.refusal.specs.Questions.{answered, Verdict, Pass, refusal_number}
 use Rattle.std.specs.Prelude.{Ok, Err}
 use mathlib.Core.Path.{◌≡◌, refl, sym, ◌∙◌, ap}
 use mathlib.Core.Bool.{true}
@@ -12,9 +12,6 @@ use native.Mathlib.Nat.{add-zero, zero-add, eq-zero-or-pos}
 use lib.ListN.{length, take, drop, replicate, length-append}
 use borrow.Author.Tests.{eq-eqb}
 use Rattle.lists.specs.Lists.{sum, Each, each_from}
-use Rattle.refusal.specs.Questions.{Verdict}
-use Rattle.refusal.specs.Questions.{Pass}
-use Rattle.refusal.specs.Questions.{refusal_number}
 use Rattle.refusal.proofs.Questions.{then-pass, then-first, refused-first, number-above-0}
 use Rattle.calendar_dates.specs.Dates.{is_date, date_of}
 use Rattle.calendar_days.specs.Days.{day_kind}

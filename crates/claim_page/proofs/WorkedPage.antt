@@ -1,6 +1,5 @@
 -- The worked lines and questions compute. Assumes nothing.
 use mathlib.Core.Path.{refl}
-use Rattle.refusal.specs.Questions.{ask}
 use Rattle.calendar_dates.specs.Dates.{leap_days, month_length, days_of_months, day_of_year, days_of_years, day_number, weekday_of}
 use Rattle.calendar_holidays.specs.Holidays.{listed}
 use Rattle.calendar_days.specs.Days.{from, to, season, is_eve, day_type_when}

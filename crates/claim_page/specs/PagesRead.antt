@@ -1,15 +1,13 @@
 -- Document 02, (e): what is read on the page after an accepted call.
-use Rattle.std.specs.Prelude.{Ok, Err}
-use Rattle.std.specs.Prelude.{◌≡◌, List, [], ◌∷◌, ◌++◌, ℕ, ◌+◌, ◌*◌, ◌≤◌, ◌<◌, length, drop}
+use Rattle.std.specs.Prelude.{Ok, Err, ◌≡◌, List, [], ◌∷◌, ◌++◌, ℕ, ◌+◌, ◌*◌, ◌≤◌, ◌<◌, length, drop}
 use Rattle.lists.specs.Lists.{Each, each_from}
 use Rattle.refusal.specs.declared.Refusal.{Refusal}
 use Rattle.refusal.specs.Questions.{Pass}
 use Rattle.calendar_dates.specs.Dates.{number_of}
 use Rattle.calendar_days.specs.Days.{day_kind}
 use Rattle.call_request.specs.Request.{Request, days_in, request_check}
-use Rattle.call_expansion.specs.Answered.{Expansion}
+use Rattle.call_expansion.specs.Answered.{Expansion, reported}
 use Rattle.call_expansion.specs.declared.ExpansionReport.{ExpansionReport}
-use Rattle.call_expansion.specs.Answered.{reported}
 use Rattle.call_expand.specs.Expanding.{totals, expansion, lent, IsExpanded}
 use Rattle.call_rows.specs.Rows.{rows_of, date_of_day, on_day}
 use Rattle.text.specs.Text.{decimal}

@@ -1,6 +1,5 @@
 -- Document 02, (e): lines of a page and question 19, worked out: those of document 01's listing, every byte.
-use Rattle.std.specs.Prelude.{Err}
-use Rattle.std.specs.Prelude.{◌≡◌, [], ◌∷◌, ℕ}
+use Rattle.std.specs.Prelude.{Err, ◌≡◌, [], ◌∷◌, ℕ}
 use Rattle.refusal.specs.declared.Refusal.TheVariants.{ShortPage}
 use Rattle.refusal.specs.Questions.{Pass}
 use Rattle.calendar_dates.specs.declared.Date.{Date}
