@@ -1,16 +1,16 @@
 -- 65,536 bytes are enough for what is printed: a line a day of at most 39, 1,461 days, and a last line of at most 90; or the line
 -- of a refusal. Assumes nothing.
-use Rattle.refusal.specs.Questions.{answered}
 use Rattle.std.specs.Prelude.{Ok, Err}
-use mathlib.Core.Path.{◌≡◌, refl, sym, ◌∙◌}
+use mathlib.Core.Path.{◌≡◌, refl}
 use mathlib.Core.List.{List}
 use Prim.Native.Nat.{ℕ, ◌≤◌}
 use native.Mathlib.Omega.{arith}
 use lib.ListN.{length, length-append}
 use Rattle.refusal.specs.Questions.{Verdict}
 use Rattle.refusal.specs.Questions.{Pass}
+use Rattle.refusal.specs.declared.Refusal.{Refusal}
 use Rattle.refusal.specs.Questions.{refusal_number, refusal_place, ◌then◌}
-use Rattle.refusal.proofs.Questions.{then_next, room-passed}
+use Rattle.refusal.proofs.Questions.{then_next, room-enough}
 use Rattle.calendar_dates.specs.Dates.{date_of}
 use Rattle.file_layout.specs.Header.{layout_of}
 use Rattle.file_group.specs.Group.{table_of}
@@ -29,8 +29,7 @@ use Rattle.program_refusal.specs.Refused.{refused_line}
 use Rattle.program_answer.specs.Accepted.{page_length}
 use Rattle.program_answer.specs.Answer.{lines_for}
 use Rattle.program_text.specs.Printed.{printed}
-use Rattle.program_response.specs.Responding.{Response}
-use Rattle.program_response.specs.Responding.{response_check, response_to}
+use Rattle.program_response.specs.Responding.{response_to}
 use Rattle.program_laws.specs.Room.{EnoughRoom}
 
 values-of-table : (q : Request) → length (table_of q.file q.group) ≡ 864
@@ -51,10 +50,10 @@ enough-room input =
     let q = request_in input in
     lines-room q (input_question input then request_check q) (then_next (input_question input) (request_check q))
 
--- so a page of that length has room for every response, and one that was written lies on its page
-pub inside : (input page : List ℕ) {answer : Response} {n : ℕ} → answer ≡ response_to input page → answer ≡ Ok n → n ≤ length page
-inside input page e w = from (response_check input (length page)) refl (sym w ∙ e)
-  where
-    from : {n : ℕ} (v : Verdict) → response_check input (length page) ≡ v → Ok n ≡ answered v (length (printed input)) → n ≤ length page
-    from {n} (Ok _) p h = let same : n ≡ length (printed input) = cc in omega (arith, room-passed _ _ p)
-    from {n} (Err r) p h = cc
+-- so a page of that length has room for every response
+pub no_refusal : (input page : List ℕ) {r : Refusal} → page_length ≤ length page → Err r ≡ response_to input page → ⊥
+unfolding EnoughRoom
+no_refusal input page room e =
+    let pass = room-enough (length (printed input)) (length page) (omega (arith, enough-room input)) in
+    let no = rw pass at e in
+    cc

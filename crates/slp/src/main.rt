@@ -4,6 +4,7 @@
 #![tactic(auto)]
 
 ghost use Rattle.std.specs.Prelude.{◌≡◌, ◌≤◌, length};
+ghost use Rattle.program_answer.specs.Accepted.{page_length};
 ghost use Rattle.program_response.specs.Responding.{page_after};
 
 use std::io;
@@ -24,12 +25,15 @@ fn read_input(rt: &HostRuntime) -> io::Result<Vec<u8>> {
     Ok(input)
 }
 
-// Prints the response to an input, which stands on the page then.
+// Prints the response to an input, which stands on the page then; a page of that length has room for every response, by the theorem
+// `EnoughRoom`.
+#[tactic(auto, using(program_laws::proofs::Room::no_refusal))]
 fn print(rt: &HostRuntime, input: &[u8], page: &mut [u8]) -> io::Result<()>
+    requires { page_length ≤ length page.old }
     ensures { page.new ≡ page_after input.now page.old }
 {
     let Ok(written) = program_response::respond(input, page) else {
-        return Ok(()); // not reached: theorem `EnoughRoom`
+        unreachable!()
     };
     match io::writer(rt).write_all(&page[..written]) {
         Ok(()) => Ok(()),
