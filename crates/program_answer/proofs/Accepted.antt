@@ -4,14 +4,12 @@ use Rattle.refusal.specs.Questions.{Pass}
 use Rattle.calendar_dates.specs.Dates.{date_of}
 use Rattle.calendar_period.specs.Period.{PeriodDays, period_days}
 use Rattle.carry.specs.declared.Totals.{Totals}
-use Rattle.carry.specs.Energy.{powers}
-use Rattle.carry.proofs.Carry.{length-figures}
 use Rattle.file_group.specs.Group.{table_of}
 use Rattle.day_powers.specs.DayQuarters.{basis}
-use Rattle.series.specs.Inside.{comes_to}
-use Rattle.call_request.specs.Request.{Request, days_in, quarters, series, request_check}
+use Rattle.call_request.specs.Request.{Request, days_in, request_check}
 use Rattle.call_request.proofs.Sound.{sound}
 use Rattle.call_expand.specs.Expanding.{totals}
+use Rattle.call_rows.proofs.Rows.{quarters-come-to}
 use Rattle.text.specs.declared.Page.{Page}
 use Rattle.text.specs.Inside.{Put, Room}
 use Rattle.text.proofs.Puts.{both}
@@ -19,11 +17,6 @@ use Rattle.text_program_lines.specs.Lines.{day_line, last_line}
 use Rattle.text_program_lines.specs.Lengths.{last-line-short}
 use Rattle.text_listing.specs.Inside.{Listed}
 use Rattle.program_answer.specs.Accepted.{accepted_lines, page_length}
-
--- what a request's quarter hours come to are its totals
-request-totals : (q : Request) {t : Totals} → t ≡ comes_to q.yearly (powers (quarters q)) q.carry → t ≡ totals q
-unfolding series
-request-totals q h = rw (length-figures q.yearly (powers (quarters q)) q.carry) h
 
 module _ (q : Request) (passed : request_check q ≡ Pass) where
   pub accepted : {values : List ℕ} {period : PeriodDays} {t : Totals} {before middle after : Page} → values ≡ table_of q.file q.group →
@@ -33,5 +26,5 @@ module _ (q : Request) (passed : request_check q ≡ Pass) where
   accepted v e l last room =
       let days = rw (v, e) at l in
       let few = (sound q passed).period.short in
-      both days.lines (rw (e, request-totals q days.come_to) at last)
+      both days.lines (rw (e, quarters-come-to q days.come_to) at last)
       (omega (arith, days.lines.behind, days.short, last-line-short (days_in q) (totals q)))
