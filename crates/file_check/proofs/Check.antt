@@ -2,20 +2,17 @@
 -- Each question that passed is turned back into the facts that it asks. Assumes nothing.
 use mathlib.Core.Path.{◌≡◌}
 use mathlib.Core.List.{List}
-use Prim.Native.Nat.{ℕ, ◌+◌, ◌-◌, ◌*◌, ◌≤◌, ◌<◌}
-use native.Mathlib.Omega.{arith}
+use Prim.Native.Nat.{ℕ, ◌+◌, ◌*◌, ◌≤◌, ◌<◌}
 use borrow.Author.Tests.{leb-true}
-use Rattle.lists.proofs.Strides.{stride}
-use Rattle.big_endian.specs.BigEndian.{byte_at, word_at}
+use Rattle.big_endian.specs.BigEndian.{word_at}
 use Rattle.refusal.specs.Questions.{Pass}
 use Rattle.refusal.specs.declared.Refusal.TheVariants.{BadValue}
 use Rattle.refusal.proofs.Questions.{ask-passed, then-first, then_next, each-passed}
 use Rattle.file_layout.specs.declared.Layout.{Layout}
 use Rattle.file_layout.specs.Header.{header_length, layout_of, profile_length, header_check}
-use Rattle.file_layout.proofs.Header.{Headed, sound, headed}
+use Rattle.file_layout.proofs.Header.{Headed, headed}
 use Rattle.file_values.specs.Values.{value_question, profile_values_question, values_question}
-use Rattle.file_check.specs.Check.{code_question, codes_question, file_check}
-use Rattle.file_check.proofs.Codes.{RisingAt, rising-at}
+use Rattle.file_check.specs.Check.{codes_question, file_check}
 
 -- questions 1 to 5 passed
 pub record Accepted (file : List ℕ) : Type 0 where
@@ -46,21 +43,3 @@ value-bound file a k i hk hi =
     let at = profile_at layout k + layout.before in
     let profile = each-passed (profile_values_question layout file) (profile_length layout) layout.count header_length k a.values hk in
     leb-true _ _ (ask-passed _ (BadValue (at + i * 2)) (each-passed (value_question file) 2 layout.entries at i profile hi))
-
--- codes are 0 to 10, "each above the one before"
-module _ (file : List ℕ) (a : Accepted file) (k : ℕ) (below : k < (layout_of file).count) where
-  rising-code : RisingAt (layout_of file) file (profile_at (layout_of file) k)
-  rising-code =
-      let layout = layout_of file in
-      rising-at _ _ _ (each-passed (code_question layout file) (profile_length layout) layout.count header_length k a.codes below)
-
-  pub code-bound : byte_at file (profile_at (layout_of file) k) ≤ 10
-  code-bound = rising-code.bound
-
-  pub codes-rise : 0 < k → byte_at file (profile_at (layout_of file) (k - 1)) < byte_at file (profile_at (layout_of file) k)
-  codes-rise h =
-      let at = profile_at (layout_of file) k in
-      let s = stride k (profile_length (layout_of file)) h in
-      let c = (sound file).coded in
-      let before : at - profile_length (layout_of file) ≡ profile_at (layout_of file) (k - 1) = omega arith in
-      rw before at (rising-code.rises (λ e. omega arith))

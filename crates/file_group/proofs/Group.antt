@@ -32,12 +32,6 @@ pub record Searched (layout : Layout) (file : List ℕ) (group n at k : ℕ) : T
   pub rest : offset_among layout file group (n - k) (at + k * profile_length layout) ≡ offset_among layout file group n at
 
 module _ {layout : Layout} {file : List ℕ} {group n at : ℕ} where
-  pub none_searched : Searched layout file group n at 0
-  none_searched =
-      let e : n - 0 ≡ n = omega arith in
-      let f : at + 0 * profile_length layout ≡ at = omega arith in
-      record { rest = rw (e, f) }
-
   module _ {k : ℕ} (search : Searched layout file group n at k) where
     -- the code after them is the group's, or is not
     pub found-here : k < n → byte_at file (at + k * profile_length layout) ≡ group →

@@ -16,6 +16,7 @@ fn fill(part: &[u8], table: &mut [u16])
     requires { length part.now ≡ length table.old * 2 }
     ensures { table.new ≡ words_of part.now }
 {
+    // Kept: each value by its number, since of what is written through a zip with chunks_exact a proof knows the length alone.
     for (i, entry) in table.iter_mut().enumerate() {
         *entry = big_endian::word_at(part, i * 2);
     }

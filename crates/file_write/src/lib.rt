@@ -28,6 +28,7 @@ fn put_values(values: &[u16], part: &mut [u8])
     requires { length part.old ≡ length values.now * 2 }
     ensures { part.new ≡ bytes_of values.now }
 {
+    // Kept: a place for each value by its number, since of what is written through chunks_exact_mut a proof knows the length alone.
     for (i, value) in values.iter().enumerate() {
         big_endian::put_word(*value, part, i * 2);
     }

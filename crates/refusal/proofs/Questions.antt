@@ -172,12 +172,6 @@ number-above-0 (ShortPage needed) = refl
 pub record Asked (question : ℕ → Verdict) (step n at k : ℕ) : Type 0 where
   pub rest : ask_each question step (n - k) (at + k * step) ≡ ask_each question step n at
 
-pub asked_none : {question : ℕ → Verdict} {step n at : ℕ} → Asked question step n at 0
-asked_none {question} {step} {n} {at} =
-    let e : n - 0 ≡ n = omega arith in
-    let f : at + 0 * step ≡ at = omega arith in
-    record { rest = rw (e, f) }
-
 module _ {question : ℕ → Verdict} {step n at k : ℕ} (loop : Asked question step n at k) where
   turn_at : k < n → (question (at + k * step) then ask_each question step (n - (k + 1)) (at + (k + 1) * step)) ≡ ask_each question step n at
   unfolding ask_each
