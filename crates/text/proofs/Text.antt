@@ -3,7 +3,7 @@
 use mathlib.Core.Path.{◌≡◌, refl, ◌∙◌}
 use mathlib.Core.List.{List, [], ◌∷◌, ◌++◌}
 use mathlib.Core.Logic.{⊎_elim}
-use Prim.Native.Nat.{ℕ, zero, suc, ◌/◌, ◌%◌, ◌^◌, ◌≤◌, ◌<◌}
+use Prim.Native.Nat.{ℕ, zero, suc, ◌+◌, ◌*◌, ◌/◌, ◌%◌, ◌^◌, ◌≤◌, ◌<◌}
 use native.Mathlib.Omega.{arith}
 use native.Mathlib.Nat.{eq-zero-or-pos, pow-succ'}
 use lib.ListN.{length, length-append}
@@ -53,6 +53,31 @@ decimal-short n zero h some = omega arith
 decimal-short n (suc k) h some =
     let less : n / 10 < 10 ^ k = omega (arith, pow-succ' 10 k) in
     omega (arith, digits-count 19 n, front-short 19 (n / 10) k less)
+
+power_some : (j : ℕ) → 1 ≤ 10 ^ j
+power_some zero = omega arith
+power_some (suc j) = omega (arith, pow-succ' 10 j, power_some j)
+
+-- a number from 10 ^ j on has more than j digits
+front-long : (k n j : ℕ) → 10 ^ j ≤ n → j < k → j < length (front k n)
+front-long zero n j h less = absurd (omega arith)
+front-long (suc k) zero j h less = absurd (omega (arith, power_some j))
+front-long (suc k) (suc n) zero h less = omega (arith, digits-count k (suc n))
+front-long (suc k) (suc n) (suc j) h less =
+    let deeper : 10 ^ j ≤ suc n / 10 = omega (arith, pow-succ' 10 j) in
+    omega (arith, digits-count k (suc n), front-long k (suc n / 10) j deeper (omega arith))
+
+pub decimal-long : (n k : ℕ) → 10 ^ k ≤ n → k < 20 → k < length (decimal n)
+decimal-long n zero h less = omega (arith, digits-count 19 n)
+decimal-long n (suc k) h less =
+    let deeper : 10 ^ k ≤ n / 10 = omega (arith, pow-succ' 10 k) in
+    omega (arith, digits-count 19 n, front-long 19 (n / 10) k deeper (omega arith))
+
+-- a number of so many places more than one: the whole part of its logarithm to base 10
+pub places_more : (n k : ℕ) → 10 ^ k ≤ n → n < 10 * 10 ^ k → k < 20 → k + 1 ≡ length (decimal n)
+places_more n k least below less =
+    let most : length (decimal n) ≤ suc k = decimal-short n (suc k) (omega (arith, pow-succ' 10 k)) (omega arith) in
+    omega (arith, decimal-long n k least less)
 
 pub decimal-some : (n : ℕ) → 1 ≤ length (decimal n)
 decimal-some n = omega (arith, digits-count 19 n)

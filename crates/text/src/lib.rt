@@ -86,16 +86,14 @@ impl<'a> Page<'a> {
 }
 
 // How many digits a number has in decimal.
+#[tactic(auto, using(crate::proofs::Text::places_more), unfolding(crate::specs::Text::digits))]
 pub fn digit_count(n: u64) -> usize
     ensures { result ≡ length (decimal n) }
 {
-    let mut places: usize = 1;
-    let mut rest = n / 10;
-    while 0 < rest {
-        rest /= 10;
-        places += 1;
+    match n {
+        0 => 1,
+        _ => n.ilog10() as usize + 1,
     }
-    places
 }
 
 // Writes the last digits of a number, as many as there are places.
