@@ -2,7 +2,7 @@
 #![tactic(auto)]
 
 ghost use Rattle.std.specs.Prelude.{◌≡◌, true, ◌≤◌};
-ghost use Rattle.calendar_dates.specs.Dates.{is_date};
+ghost use Rattle.calendar_dates.specs.Dates.{is_date, weekday_of};
 ghost use Rattle.calendar_days.specs.Days.{month_day, from, to, season, is_eve, day_type_when, day_type, last_sunday, clock, value_count_under};
 
 use calendar_dates::{CalendarDay, Date};
@@ -86,16 +86,16 @@ pub fn season_of(day: CalendarDay) -> Season
     ensures { result ≡ season day }
 {
     let date = day.date();
+    // "Winter: 1.11.-20.03.": over New Year, so either of its two parts
     if from(date, 1, 11) || to(date, 20, 3) {
-        // "Winter: 1.11.-20.03.": over New Year, so either of its two parts
-        Season::Winter
-    } else if from(date, 15, 5) && to(date, 14, 9) {
-        // "Sommer: 15.05.-14.09."
-        Season::Summer
-    } else {
-        // "Übergang: 21.03.-14.05. bzw. 15.09.-31.10.": what is left, by the theorem SeasonsSettled
-        Season::Transition
+        return Season::Winter;
     }
+    // "Sommer: 15.05.-14.09."
+    if from(date, 15, 5) && to(date, 14, 9) {
+        return Season::Summer;
+    }
+    // "Übergang: 21.03.-14.05. bzw. 15.09.-31.10.": what is left, by the theorem SeasonsSettled
+    Season::Transition
 }
 
 // 24 and 31 December.
@@ -106,14 +106,17 @@ fn is_eve(date: Date) -> bool
     date.month == 12 && matches!(date.day, 24 | 31)
 }
 
-// The day type, where it is known whether the date is a listed holiday.
+// The day type, of a date whose weekday is known, and of which it is known whether it is a listed holiday. Any date has one, also one
+// that is no date of the span and so no CalendarDay.
+// Kept: a flag is the plain form of what is known of the list; an enum of two cases would only be matched on here once more.
 #[tactic(auto, unfolding(crate::specs::Days::day_type_when))]
-pub fn day_type_when(day: CalendarDay, holiday: bool) -> DayType
-    ensures { result ≡ day_type_when day holiday }
+pub fn day_type_when(date: Date, weekday: u32, holiday: bool) -> DayType
+    requires { weekday ≡ weekday_of date }
+    ensures { result ≡ day_type_when date holiday }
 {
-    if day.weekday() == SUNDAY || holiday {
+    if weekday == SUNDAY || holiday {
         DayType::Sunday
-    } else if is_eve(day.date()) || day.weekday() == SATURDAY {
+    } else if is_eve(date) || weekday == SATURDAY {
         DayType::Saturday
     } else {
         DayType::Weekday
@@ -125,7 +128,7 @@ pub fn day_type_of(day: CalendarDay, holidays: &[u32]) -> DayType
     ensures { result ≡ day_type day holidays.now }
 {
     let holiday = calendar_holidays::is_listed(day.number(), holidays);
-    day_type_when(day, holiday)
+    day_type_when(day.date(), day.weekday(), holiday)
 }
 
 #[tactic(auto, using(calendar_dates::proofs::Dates::parts), unfolding(crate::specs::Days::last_sunday))]

@@ -40,16 +40,6 @@ impl<'a> KindDays<'a> {
     }
 }
 
-// A day's season and day type, where it is known whether the date is a listed holiday.
-fn kind_on(day: CalendarDay, holiday: bool) -> DayKind
-    ensures { result ≡ record { season = season day; day_type = day_type_when day holiday } }
-{
-    DayKind {
-        season: calendar_days::season_of(day),
-        day_type: calendar_days::day_type_when(day, holiday),
-    }
-}
-
 impl<'a> Iterator for KindDays<'a> {
     type Item = (CalendarDay, DayKind);
 
@@ -60,6 +50,10 @@ impl<'a> Iterator for KindDays<'a> {
     fn next(&mut self) -> Option<(CalendarDay, DayKind)> {
         let day = self.dates.next()?;
         let holiday = self.ahead.lists(day.number());
-        Some((day, kind_on(day, holiday)))
+        let kind = DayKind {
+            season: calendar_days::season_of(day),
+            day_type: calendar_days::day_type_when(day.date(), day.weekday(), holiday),
+        };
+        Some((day, kind))
     }
 }
