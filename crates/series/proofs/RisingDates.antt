@@ -36,11 +36,11 @@ same_kinds holidays ahead from (d ∷ dates) same h =
     rw (same (number_of d) h.0, same_kinds holidays ahead from dates same h.1)
 
 -- the first of some dates with its kind, and the others
-pub first-day : (holidays ahead : List ℕ) {dates rest : List Date} {d : Date} {kind : DayKind} {holiday : Bool} {number : ℕ} →
+pub first_day : (holidays ahead : List ℕ) {dates rest : List Date} {d : Date} {kind : DayKind} {holiday : Bool} {number : ℕ} →
     Rising dates → dates ≡ d ∷ rest → number ≡ number_of d → holiday ≡ listed number holidays →
     ((later : ℕ) → number ≤ later → listed later ahead ≡ listed later holidays) →
     kind ≡ record { season = season d; day_type = day_type_when d holiday } →
     with_kinds holidays dates ≡ (d, kind) ∷ with_kinds ahead rest
-first-day holidays ahead {rest = rest} {d = d} rises e n h same k =
+first_day holidays ahead {rest = rest} {d = d} rises e n h same k =
     let first = rw e at rises in
     rw (e, k, h, n, same_kinds holidays ahead (number_of d) rest (rw n at same) first.0)
