@@ -1,10 +1,10 @@
 // Series and carry (document 01): one day's powers, after the clock change, made into whole watt hours with a carry.
 #![tactic(auto)]
 
-ghost use Rattle.std.specs.Prelude.{◌≡◌, ◌+◌, ◌++◌, ◌≤◌, length};
+ghost use Rattle.std.specs.Prelude.{◌≡◌, ◌+◌, ◌++◌, ◌≤◌, length, take, drop};
 ghost use Rattle.calendar_days.specs.Days.{positions, value_count_under};
 ghost use Rattle.carry_quotients.specs.Inside.{SmallPowers, RangeCarried};
-ghost use Rattle.carry_day.specs.Inside.{DayCarried};
+ghost use Rattle.carry_day.specs.Inside.{DayCarried, first_end, second_start};
 
 use calendar_days::Clock;
 use carry_quotients::Carried;
@@ -13,6 +13,8 @@ use carry_quotients::Carried;
 #[tactic(auto, unfolding(calendar_days::specs::Days::positions))]
 pub fn ranges_of(powers: &[u32], clock: Clock) -> (&[u32], &[u32])
     requires { length powers.now ≡ 96 }
+    ensures first { result.0.now ≡ take (first_end clock) powers.now }
+    ensures second { result.1.now ≡ drop (second_start clock) powers.now }
     ensures joined { result.0.now ++ result.1.now ≡ positions clock powers.now }
     ensures count { length result.0.now + length result.1.now ≡ value_count_under clock }
     ensures first_short { length result.0.now ≤ 96 }
@@ -26,6 +28,7 @@ pub fn ranges_of(powers: &[u32], clock: Clock) -> (&[u32], &[u32])
 }
 
 // Stores the figures of a range, in parts where the yearly use is small enough.
+// Kept: arguments and bounds one by one, here and below, as of `carry_quotients::carry_by_quotients`.
 fn carry_range(powers: &[u32], yearly: u32, carry: u32, out: &mut [u32]) -> Carried
     requires small_powers { SmallPowers powers.now yearly carry }
     requires in_day { length powers.now ≤ 96 }

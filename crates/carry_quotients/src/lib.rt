@@ -14,7 +14,8 @@ pub struct Carried {
 }
 
 // Adds up the powers, each times `factor`, from `first` on, and stores in front of `out` what each adds to the sum's quotient by
-// UNIT, which is above `first`. Answers the last sum. Only the addition waits for the turn before.
+// UNIT, which is above `first`. Answers the last sum. Only the addition needs what the turn before worked out.
+// Kept: a place for each figure by its number, since of what is written through a zip with iter_mut a proof knows the length alone.
 pub fn store_growths<const UNIT: u64>(
     powers: &[u32],
     factor: u64,
@@ -39,6 +40,8 @@ pub fn store_growths<const UNIT: u64>(
 
 // Stores the figures of a range of a day's positions. A figure is the growth of the quotient of the sum so far: that is the
 // document's carry step.
+// Kept: yearly use and carry stand one by one, since the one is a whole call's and the other is handed on from range to range; so do
+// the bounds, which are about powers, yearly use, carry and output together and of no type of one of them.
 pub fn carry_by_quotients(powers: &[u32], yearly: u32, carry: u32, out: &mut [u32]) -> Carried
     requires small_powers { SmallPowers powers.now yearly carry }
     requires in_day { length powers.now ≤ 96 }

@@ -1,5 +1,6 @@
-// Series and carry (document 01): what one day's powers come to, after the clock change, where no figure is stored. What goes in comes
-// out as figures or as carry, so the day's figures come to one quotient, and the carry is its remainder.
+// Series and carry (document 01): what one day's powers come to, after the clock change, where no figure is stored. The
+// powers' sum times the yearly use, and the first carry, are 40,000 times the figures' sum, and the last carry: so the figures' sum is
+// one quotient, and the last carry its remainder.
 #![tactic(auto)]
 
 ghost use Rattle.std.specs.Prelude.{◌≡◌, ◌≤◌, length, sum};
@@ -18,6 +19,7 @@ fn sum_of(powers: &[u32]) -> u64
 }
 
 // The sum of the day's figures, and the carry that they leave.
+// Kept: arguments and bounds one by one, as of `carry_quotients::carry_by_quotients`.
 pub fn total_day(powers: [u32; 96], clock: Clock, yearly: u32, carry: u32) -> Carried
     requires { SmallPowers powers yearly carry }
     ensures { DayTotal powers clock yearly carry result }

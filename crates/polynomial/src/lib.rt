@@ -17,6 +17,8 @@ pub struct Coefficients {
 }
 
 // X of a day, in units of 10^-12: the signed sum.
+// Kept: t is a number with its bound beside it, here, in `dynamisation` and in `polynomial_horner`: these crates stand below the calendar,
+// whose `CalendarDay::day_of_year` has the bound, and a type of their own would be opened again in each of four short functions.
 pub fn sum(c: Coefficients, t: u32) -> i64
     requires limited { Limited c }
     requires day { Day t }

@@ -6,7 +6,7 @@ use call_day::DayReport;
 use std::fmt;
 
 // A day's figures, in the order of the enquiry's report: number and place are 0 when it is not refused.
-// Kept: season and day type are numbers here, since the second calendar has no type of the first one's crates.
+// Kept: season and day type are numbers here, since they are compared with the report's, which has numbers for C.
 #[derive(Clone, Copy, PartialEq, Eq)]
 pub struct Figures {
     pub number: u32,
@@ -56,15 +56,14 @@ pub enum Listed {
 
 // What the report must be.
 pub fn figures_of(year: u32, t: u32, weekday: u32, listed: Listed) -> Figures {
-    let leap = leap_days(year);
     Figures {
         number: 0,
         place: 0,
         weekday,
         t,
-        season: season(t, leap),
-        day_type: day_type(t, leap, weekday, is_listed(t, leap, listed)),
-        values: values(t, leap, weekday),
+        season: season(year, t),
+        day_type: day_type(year, t, weekday, is_listed(year, t, listed)),
+        values: values(year, t, weekday),
     }
 }
 
@@ -93,9 +92,8 @@ pub fn date_of(year: u32, t: u32) -> u32
 }
 
 // 1 winter, 2 summer, 3 transition. In a common year 21 March is day 80, 15 May 135, 14 September 257, 1 November 305.
-fn season(t: u32, leap: u32) -> u32
-    requires { leap ≤ 1 }
-{
+fn season(year: u32, t: u32) -> u32 {
+    let leap = leap_days(year);
     if t < 80 + leap || 305 + leap <= t {
         1
     } else if 135 + leap <= t && t <= 257 + leap {
@@ -106,9 +104,8 @@ fn season(t: u32, leap: u32) -> u32
 }
 
 // Whether the list has the day. 24 December is the year's eighth day from the end, day 358 of a common year.
-fn is_listed(t: u32, leap: u32, listed: Listed) -> bool
-    requires { leap ≤ 1 }
-{
+fn is_listed(year: u32, t: u32, listed: Listed) -> bool {
+    let leap = leap_days(year);
     match listed {
         Listed::Nothing => false,
         Listed::Day => true,
@@ -117,9 +114,8 @@ fn is_listed(t: u32, leap: u32, listed: Listed) -> bool
 }
 
 // 1 weekday, 2 Saturday, 3 Sunday: what is listed counts as Sunday, and on 24 and 31 December a weekday counts as Saturday.
-fn day_type(t: u32, leap: u32, weekday: u32, is_listed: bool) -> u32
-    requires { leap ≤ 1 }
-{
+fn day_type(year: u32, t: u32, weekday: u32, is_listed: bool) -> u32 {
+    let leap = leap_days(year);
     if is_listed || weekday == 7 {
         3
     } else if weekday == 6 || t == 358 + leap || t == 365 + leap {
@@ -131,9 +127,8 @@ fn day_type(t: u32, leap: u32, weekday: u32, is_listed: bool) -> u32
 
 // The clocks change on the Sunday among the last seven days of March, days 84 to 90 of a common year, and of October,
 // days 298 to 304.
-fn values(t: u32, leap: u32, weekday: u32) -> u32
-    requires { leap ≤ 1 }
-{
+fn values(year: u32, t: u32, weekday: u32) -> u32 {
+    let leap = leap_days(year);
     if weekday == 7 && (84 + leap..=90 + leap).contains(&t) {
         92
     } else if weekday == 7 && (298 + leap..=304 + leap).contains(&t) {
