@@ -6,7 +6,7 @@ use mathlib.Core.List.{List}
 use Prim.Native.Nat.{ℕ, zero, suc, ◌+◌}
 use native.Mathlib.Omega.{arith}
 use Rattle.refusal.specs.declared.Refusal.{Refusal}
-use Rattle.refusal.specs.declared.Refusal.TheVariants.{NoMark, WrongVersion, WrongLength, BadCode, BadValue, NoGroup, BadDate, BadPeriod, BadUse, BadCarry, ShortOutput, BadInput}
+use Rattle.refusal.specs.declared.Refusal.TheVariants.{NoMark, WrongVersion, WrongLength, BadCode, BadValue, NoGroup, BadDate, BadPeriod, BadUse, BadCarry, ShortOutput, BadInput, WrongReadings, BadFirstDate, ShortPage}
 use Rattle.refusal.specs.Questions.{Verdict}
 use Rattle.refusal.specs.Questions.{Pass}
 use Rattle.refusal.specs.Questions.{refusal_number, ask, ◌then◌, ask_each, room_question}
@@ -19,6 +19,8 @@ use Rattle.file_values.specs.Values.{value_question, profile_values_question, va
 use Rattle.file_check.specs.Check.{code_question, codes_question, file_check}
 use Rattle.file_group.specs.Group.{group_question, check}
 use Rattle.call_request.specs.Request.{use_question, carry_question}
+use Rattle.calendar_reading_periods.specs.ReadingPeriods.{readings_question, first_date_question, first_dates_question}
+use Rattle.call_page.specs.Page.{bytes_needed, page_question}
 use Rattle.program_input.specs.Input.{input_question}
 use Rattle.claim_holidays.specs.ListGiven.{NotByNine}
 
@@ -94,7 +96,7 @@ period first last =
     (both (date_question last 1) (period_question (date_of first) (date_of last)) (date-question last 1) (between (date_of first) (date_of last)))
 
 -- questions 10 to 12
-yearly-use : (yearly : ℕ) → NotByNine (use_question yearly)
+pub yearly-use : (yearly : ℕ) → NotByNine (use_question yearly)
 unfolding use_question
 yearly-use yearly = one _ BadUse (λ h. absurd (omega (arith, h)))
 
@@ -107,6 +109,19 @@ use-and-carry yearly carry = both (use_question yearly) (carry_question carry) (
 
 pub output : (needed room : ℕ) → NotByNine (room_question needed room)
 output needed room = one _ (ShortOutput needed) (λ h. absurd (omega (arith, h)))
+
+-- questions 17 to 19
+pub readings : (dates values : ℕ) → NotByNine (readings_question dates values)
+unfolding readings_question
+readings dates values = one _ WrongReadings (λ h. absurd (omega (arith, h)))
+
+pub first-dates : (first last : ℕ) (starts : List ℕ) → NotByNine (first_dates_question first last starts)
+unfolding first_date_question first_dates_question
+first-dates first last starts = each _ _ _ _ (λ k. one _ (BadFirstDate k) (λ h. absurd (omega (arith, h))))
+
+pub page-room : (days room : ℕ) → NotByNine (page_question days room)
+unfolding page_question
+page-room days room = one _ (ShortPage (bytes_needed days)) (λ h. absurd (omega (arith, h)))
 
 -- question 13
 pub whole-input : (input : List ℕ) → NotByNine (input_question input)

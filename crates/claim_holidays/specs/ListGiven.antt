@@ -1,5 +1,5 @@
--- Document 02, (a): "Every list given passes question 9." So expanding, the program and the day enquiry are never refused by it. Proved
--- in proofs/ListGiven.antt.
+-- Document 02, (a): "Every list given passes question 9." So none of the calls that are given a list is refused by it:
+-- expanding, the deliveries, the day page, the program and the day enquiry. Proved in proofs/ListGiven.antt.
 use Rattle.std.specs.Prelude.{◌≡◌, List, ℕ, ◌+◌, ◌≤◌, length, take}
 use Rattle.refusal.specs.Questions.{Verdict}
 use Rattle.refusal.specs.Questions.{Pass}
@@ -11,6 +11,8 @@ use Rattle.call_holidays.specs.Holidays.{holidays_answer, list_after, reported}
 use Rattle.call_day.specs.Enquiry.{day_check}
 use Rattle.call_request.specs.Request.{Request, request_check}
 use Rattle.call_expand.specs.Expanding.{expand_check}
+use Rattle.call_deliveries.specs.Deliveries.{Deliveries, deliveries_check}
+use Rattle.call_page.specs.Page.{page_check}
 use Rattle.program_input.specs.Input.{input_question, request_in}
 
 -- a check is not refused by question 9
@@ -21,6 +23,8 @@ NotByNine v = number v ≡ 9 → ⊥
 pub record GoodList (given : List ℕ) : Type 0 where
   pub passes : holidays_question given ≡ Pass
   pub expanding : (q : Request) → q.holidays ≡ given → NotByNine (expand_check q)
+  pub deliveries : (d : Deliveries) → d.holidays ≡ given → NotByNine (deliveries_check d)
+  pub page : (q : Request) → q.holidays ≡ given → NotByNine (page_check q)
   -- the check that `printed` has (program_text)
   pub program : (input : List ℕ) → (request_in input).holidays ≡ given → NotByNine (input_question input then request_check (request_in input))
   pub enquiry : (date : ℕ) → NotByNine (day_check date given)
