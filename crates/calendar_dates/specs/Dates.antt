@@ -1,5 +1,5 @@
 -- Document 01, "Calendar": dates, day numbers, weekdays and the day of the year.
-use Rattle.std.specs.Prelude.{◌≡◌, Bool, true, cond, ◌&&◌, List, [], ◌∷◌, ℕ, zero, suc, ◌+◌, ◌-◌, ◌*◌, ◌/◌, ◌%◌, ◌<◌, leb, ltb, eqb, get_or}
+use Rattle.std.specs.Prelude.{◌≡◌, Bool, true, cond, ◌&&◌, List, [], ◌∷◌, ◌++◌, length, replicate, decimal, ℕ, zero, suc, ◌+◌, ◌-◌, ◌*◌, ◌/◌, ◌%◌, ◌<◌, leb, ltb, eqb, get_or}
 use Rattle.calendar_dates.specs.declared.Date.{Date}
 
 -- "lent as numbers yyyymmdd"
@@ -8,6 +8,14 @@ date_of n = record { year = n / 10_000; month = n / 100 % 100; day = n % 100 }
 
 abbrev pub number_of : Date → ℕ
 number_of d = d.year * 10_000 + d.month * 100 + d.day
+
+-- a number in decimal, with zeros (code 48) in front of it where it has fewer digits than that
+abbrev pub with_zeros : ℕ → ℕ → List ℕ
+with_zeros digits n = replicate (digits - length (decimal n)) 48 ++ decimal n
+
+-- a date's text yyyy-mm-dd, with hyphens (code 45); any three numbers have one
+abbrev pub printed : Date → List ℕ
+printed d = with_zeros 4 d.year ++ (45 ∷ (with_zeros 2 d.month ++ (45 ∷ with_zeros 2 d.day)))
 
 -- "Month lengths come from one table of twelve lengths."
 abbrev pub month_lengths : List ℕ

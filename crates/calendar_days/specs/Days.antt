@@ -11,6 +11,23 @@ use Rattle.calendar_days.specs.declared.DayKind.{DayKind}
 use Rattle.calendar_days.specs.declared.Clock.{Clock}
 use Rattle.calendar_days.specs.declared.Clock.TheVariants.{Unchanged, Forward, Back}
 
+-- "season letter (W, S, T)", as its code
+abbrev pub season_letter : Season → ℕ
+season_letter Winter = 87
+season_letter Summer = 83
+season_letter Transition = 84
+
+-- the seasons' digits are our choice, by the order of the tables in the file; "day type (1 weekday, 2 Saturday, 3 Sunday)"
+abbrev pub season_digit : Season → ℕ
+season_digit Winter = 1
+season_digit Summer = 2
+season_digit Transition = 3
+
+abbrev pub day_type_digit : DayType → ℕ
+day_type_digit Weekday = 1
+day_type_digit Saturday = 2
+day_type_digit Sunday = 3
+
 -- month and day as one number, mmdd
 abbrev pub month_day : Date → ℕ
 month_day d = d.month * 100 + d.day

@@ -1,9 +1,9 @@
 // What sort of day a date is: its season, its day type and its clock change (document 01, "Calendar", and document 02, (b) and (d)).
 #![tactic(auto)]
 
-ghost use Rattle.std.specs.Prelude.{◌≡◌, true, ◌≤◌};
+ghost use Rattle.std.specs.Prelude.{◌≡◌, true, [], ◌∷◌, decimal, ◌≤◌, Some};
 ghost use Rattle.calendar_dates.specs.Dates.{is_date, weekday_of};
-ghost use Rattle.calendar_days.specs.Days.{month_day, from, to, season, is_eve, day_type_when, day_type, last_sunday, clock, value_count_under};
+ghost use Rattle.calendar_days.specs.Days.{season_letter, season_digit, day_type_digit, month_day, from, to, season, is_eve, day_type_when, day_type, last_sunday, clock, value_count_under};
 
 use calendar_dates::{CalendarDay, Date};
 use std::fmt;
@@ -15,14 +15,36 @@ pub enum Season {
     Transition,
 }
 
+impl Season {
+    // Its letter in a line of text.
+    pub fn letter(self) -> u8
+        ensures { result ≡ season_letter self }
+    {
+        match self {
+            Season::Winter => b'W',
+            Season::Summer => b'S',
+            Season::Transition => b'T',
+        }
+    }
+
+    // 1 winter, 2 summer, 3 transition: the order of the tables in the profile file.
+    pub fn digit(self) -> u32
+        ensures { result ≡ season_digit self }
+    {
+        match self {
+            Season::Winter => 1,
+            Season::Summer => 2,
+            Season::Transition => 3,
+        }
+    }
+}
+
 // Its letter.
 impl fmt::Display for Season {
+    ghost output = { λ season. Some (season_letter season ∷ []) };
+
     fn fmt<W: fmt::Write>(&self, f: &mut fmt::Formatter<W>) -> fmt::Result {
-        f.write_str(match self {
-            Season::Winter => "W",
-            Season::Summer => "S",
-            Season::Transition => "T",
-        })
+        f.write_char(char::from(self.letter()))
     }
 }
 
@@ -33,14 +55,25 @@ pub enum DayType {
     Sunday,
 }
 
+impl DayType {
+    // 1 weekday, 2 Saturday, 3 Sunday.
+    pub fn digit(self) -> u32
+        ensures { result ≡ day_type_digit self }
+    {
+        match self {
+            DayType::Weekday => 1,
+            DayType::Saturday => 2,
+            DayType::Sunday => 3,
+        }
+    }
+}
+
 // Its digit.
 impl fmt::Display for DayType {
+    ghost output = { λ day_type. Some (decimal (day_type_digit day_type)) };
+
     fn fmt<W: fmt::Write>(&self, f: &mut fmt::Formatter<W>) -> fmt::Result {
-        f.write_str(match self {
-            DayType::Weekday => "1",
-            DayType::Saturday => "2",
-            DayType::Sunday => "3",
-        })
+        write!(f, "{}", self.digit())
     }
 }
 

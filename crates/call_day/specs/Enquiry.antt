@@ -1,14 +1,12 @@
 -- Document 01: "A day enquiry takes a date and a list and gives weekday (1 Monday to 7 Sunday), t, season, day type (1 weekday,
 -- 2 Saturday, 3 Sunday) and value count."
-use Rattle.std.specs.Prelude.{List, ℕ, Result, Ok, Err}
+use Rattle.std.specs.Prelude.{List, ◌∷◌, ◌++◌, decimal, ℕ, Result, Ok, Err}
 use Rattle.refusal.specs.declared.Refusal.{Refusal}
 use Rattle.refusal.specs.Questions.{Verdict, refusal_number, refusal_place, ◌then◌, answered}
 use Rattle.calendar_dates.specs.declared.Date.{Date}
 use Rattle.calendar_dates.specs.Dates.{date_of, day_of_year, weekday_of}
 use Rattle.calendar_holidays.specs.Holidays.{holidays_question}
-use Rattle.calendar_days.specs.declared.Season.{Season}
-use Rattle.calendar_days.specs.declared.DayType.{DayType}
-use Rattle.calendar_days.specs.Days.{season, day_type, value_count}
+use Rattle.calendar_days.specs.Days.{season_letter, season_digit, day_type_digit, season, day_type, value_count}
 use Rattle.calendar_period.specs.Period.{date_question}
 use Rattle.call_day.specs.declared.Day.{Day}
 use Rattle.call_day.specs.declared.DayReport.{DayReport}
@@ -24,6 +22,14 @@ describe d holidays =
       value_count = value_count d;
     }
 
+-- a day's line of text: weekday, t, season letter with day digit, and value count, a space (code 32) between them
+abbrev pub printed : Day → List ℕ
+printed day =
+    decimal day.weekday
+    ++ (32 ∷ (decimal day.t
+    ++ (32 ∷ season_letter day.season ∷ (decimal (day_type_digit day.day_type)
+    ++ (32 ∷ decimal day.value_count)))))
+
 -- "the day enquiry 7 and 9"
 abbrev pub day_check : ℕ → List ℕ → Verdict
 day_check date holidays = date_question date 0 then holidays_question holidays
@@ -34,17 +40,6 @@ DayAnswer = Result Day Refusal
 
 unfoldable pub day_enquiry : ℕ → List ℕ → DayAnswer
 day_enquiry date holidays = answered (day_check date holidays) (describe (date_of date) holidays)
-
--- the seasons' digits are our choice, by the order of the tables in the file; "day type (1 weekday, 2 Saturday, 3 Sunday)"
-abbrev pub season_digit : Season → ℕ
-season_digit Season.Winter = 1
-season_digit Season.Summer = 2
-season_digit Season.Transition = 3
-
-abbrev pub day_type_digit : DayType → ℕ
-day_type_digit DayType.Weekday = 1
-day_type_digit DayType.Saturday = 2
-day_type_digit DayType.Sunday = 3
 
 -- the numbers for each case of the answer: an accepted enquiry has number and place 0
 abbrev pub reported_day : Day → DayReport

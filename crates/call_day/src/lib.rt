@@ -1,8 +1,8 @@
 // The day enquiry: questions 7 and 9, and what documents 01 and 02 say of the day.
 #![tactic(auto)]
 
-ghost use Rattle.std.specs.Prelude.{◌≡◌};
-ghost use Rattle.call_day.specs.Enquiry.{describe, day_enquiry, season_digit, day_type_digit, reported};
+ghost use Rattle.std.specs.Prelude.{◌≡◌, Some};
+ghost use Rattle.call_day.specs.Enquiry.{describe, printed, day_enquiry, reported};
 
 use calendar_dates::CalendarDay;
 use calendar_days::{DayType, Season};
@@ -20,6 +20,8 @@ pub struct Day {
 
 // Weekday, t, season with day type, and value count.
 impl fmt::Display for Day {
+    ghost output = { λ day. Some (printed day) };
+
     fn fmt<W: fmt::Write>(&self, f: &mut fmt::Formatter<W>) -> fmt::Result {
         let season = self.season;
         let day_type = self.day_type;
@@ -68,29 +70,6 @@ pub fn enquire(date: u32, holidays: &[u32]) -> Result<Day, Refusal>
     Ok(describe(day, holidays))
 }
 
-// 1 winter, 2 summer, 3 transition: the order of the tables in the profile file.
-// Kept: no From, since Season and u32 are both of other crates; the digits are this report's own. So it is with the day types.
-pub fn season_digit(s: Season) -> u32
-    ensures { result ≡ season_digit s }
-{
-    match s {
-        Season::Winter => 1,
-        Season::Summer => 2,
-        Season::Transition => 3,
-    }
-}
-
-// 1 weekday, 2 Saturday, 3 Sunday.
-pub fn day_type_digit(d: DayType) -> u32
-    ensures { result ≡ day_type_digit d }
-{
-    match d {
-        DayType::Weekday => 1,
-        DayType::Saturday => 2,
-        DayType::Sunday => 3,
-    }
-}
-
 // The answer as document 01's numbers.
 impl From<Result<Day, Refusal>> for DayReport {
     ghost from_gives = { λ answer report. report ≡ reported answer };
@@ -100,8 +79,8 @@ impl From<Result<Day, Refusal>> for DayReport {
             Ok(day) => DayReport {
                 weekday: day.weekday,
                 t: day.t,
-                season: season_digit(day.season),
-                day_type: day_type_digit(day.day_type),
+                season: day.season.digit(),
+                day_type: day.day_type.digit(),
                 value_count: day.value_count,
                 ..DayReport::default()
             },

@@ -1,6 +1,6 @@
 -- Document 01, "The questions, first "no" counts": how questions are asked one after the other, and the number and place
 -- that a refusal is reported with.
-use Rattle.std.specs.Prelude.{Bool, true, false, List, ◌++◌, ℕ, zero, suc, ◌+◌, leb, length, drop, Result, Ok, Err}
+use Rattle.std.specs.Prelude.{Bool, true, false, List, ◌∷◌, ◌++◌, decimal, ℕ, zero, suc, ◌+◌, leb, length, drop, Result, Ok, Err}
 use Rattle.refusal.specs.declared.Refusal.{Refusal}
 use Rattle.refusal.specs.declared.Refusal.TheVariants.{NoMark, WrongVersion, WrongLength, BadCode, BadValue, NoGroup, BadDate}
 use Rattle.refusal.specs.declared.Refusal.TheVariants.{BadPeriod, BadHoliday, BadUse, BadCarry, ShortOutput, BadInput}
@@ -58,6 +58,10 @@ refusal_place (ShortList needed) = needed
 refusal_place WrongReadings = 0
 refusal_place (BadFirstDate index) = index
 refusal_place (ShortPage needed) = needed
+
+-- its line of text: the number and the place in decimal, a space (code 32) between them
+abbrev pub printed : Refusal → List ℕ
+printed r = decimal (refusal_number r) ++ (32 ∷ decimal (refusal_place r))
 
 -- "number and place, both 0 when all pass"
 abbrev pub number : Verdict → ℕ

@@ -1,8 +1,8 @@
 // What a check answers (document 01, "The questions, first "no" counts"), and document 01's number and place for it.
 #![tactic(auto)]
 
-ghost use Rattle.std.specs.Prelude.{◌≡◌};
-ghost use Rattle.refusal.specs.Questions.{refusal_number, refusal_place, reported, room_question};
+ghost use Rattle.std.specs.Prelude.{◌≡◌, Some};
+ghost use Rattle.refusal.specs.Questions.{refusal_number, refusal_place, printed, reported, room_question};
 
 use std::error::Error;
 use std::fmt;
@@ -97,6 +97,8 @@ impl Refusal {
 
 // The number and the place, as the program's line of a refusal has them.
 impl fmt::Display for Refusal {
+    ghost output = { λ refusal. Some (printed refusal) };
+
     fn fmt<W: fmt::Write>(&self, f: &mut fmt::Formatter<W>) -> fmt::Result {
         write!(f, "{} {}", self.number(), self.place())
     }

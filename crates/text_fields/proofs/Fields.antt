@@ -2,7 +2,7 @@
 use Prim.Native.Nat.{◌<◌}
 use native.Mathlib.Omega.{arith}
 use Rattle.calendar_days.specs.declared.DayType.{DayType}
-use Rattle.call_day.specs.Enquiry.{day_type_digit}
+use Rattle.calendar_days.specs.Days.{day_type_digit}
 
 -- a day type has one digit
 pub one-digit : (k : DayType) → day_type_digit k < 10

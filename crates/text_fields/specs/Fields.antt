@@ -1,15 +1,8 @@
 -- Document 01, "The program": the fields of a line.
 use Rattle.std.specs.Prelude.{List, [], ◌∷◌, ℕ}
-use Rattle.calendar_days.specs.declared.Season.{Season}
 use Rattle.calendar_days.specs.declared.DayKind.{DayKind}
-use Rattle.call_day.specs.Enquiry.{day_type_digit}
+use Rattle.calendar_days.specs.Days.{season_letter, day_type_digit}
 use Rattle.text.specs.Text.{space, digit, decimal}
-
--- "season letter (W, S, T)"
-abbrev pub season_letter : Season → ℕ
-season_letter Season.Winter = 87
-season_letter Season.Summer = 83
-season_letter Season.Transition = 84
 
 -- "season letter (W, S, T) with day digit (1 weekday, 2 Saturday, 3 Sunday)"
 abbrev pub day_type_text : DayKind → List ℕ

@@ -5,5 +5,5 @@ use Rattle.text_fields.proofs.put_day_type.Goals as goal
 
 pub returns : goal.returns
 returns c =
-    rw (sym c.season_letter.ensures, sym c.day_type_digit.ensures)
+    rw (sym c.letter.ensures, sym c.digit.ensures)
     (both c.put_byte.ensures c.put_byte-2.ensures (omega arith))
