@@ -1,14 +1,12 @@
 -- Places at a stride: the arithmetic of n * k where n strides of k are left, and the laws of `each_from`, by induction over the number
 -- of places. Assumes nothing.
 use mathlib.Core.Path.{◌≡◌, refl, ap}
-use mathlib.Core.List.{List, [], ◌∷◌, ◌++◌}
+use mathlib.Core.List.{[], ◌∷◌}
 use Prim.Native.Nat.{ℕ, zero, suc, ◌+◌, ◌-◌, ◌*◌, ◌≤◌, ◌<◌, min}
 use native.Mathlib.Nat.{suc-mul, zero-min, min-zero, suc-min-suc}
 use native.Mathlib.Omega.{arith}
-use lib.ListN.{length, take, drop, get_or}
-use lib.Seq.{sets}
+use lib.ListN.{length, take, get_or}
 use Rattle.lists.specs.Lists.{each_from}
-use Rattle.lists.proofs.Stores.{stored-first}
 
 -- one stride taken from n
 pub stride : (n k : ℕ) → 0 < n → n * k ≡ (n - 1) * k + k
@@ -17,7 +15,7 @@ stride (suc n) k h =
     let e : suc n - 1 ≡ n = omega arith in
     rw e (suc-mul n k)
 
--- n strides are left, from `at` to `end`
+-- n strides are left, from `at` to `end`; so far only docs/wip/coefficients cites this and its two laws
 pub record Ahead (step n at end : ℕ) : Type 0 where
   pub ends : at + n * step ≡ end
 
@@ -28,9 +26,6 @@ module _ {step n at end : ℕ} (ahead : Ahead step n at end) where
 
   pub one_less : 0 < n → Ahead step (n - 1) (at + step) end
   one_less h = record { ends = omega (arith, stride n step h) }
-
-  pub none_ahead : n ≤ 0 → at ≡ end
-  none_ahead h = let e : n ≡ 0 = omega arith in omega (arith, rw e at ahead.ends)
 
 -- the first place, and those after it
 here : (at k : ℕ) → at + zero * k ≡ at
@@ -70,10 +65,6 @@ module _ {A : Type 0} (f : ℕ → A) (step : ℕ) where
   take_places zero n at = rw (min-zero n)
   take_places (suc k) zero at = rw (zero-min (suc k))
   take_places (suc k) (suc n) at = rw (suc-min-suc n k, take_places k n (at + step))
-
-  -- what stands at the places, stored from the start of a table on
-  pub stored-places : (table : List A) (n at : ℕ) → n ≤ length table → sets table 0 (each_from f step n at) ≡ each_from f step n at ++ drop n table
-  stored-places table n at h = stored-first (each_from f step n at) table (length-places n at) h
 
   -- the same stands at as many other places, from `there` on
   pub places-agree : (g : ℕ → A) (n at there : ℕ) → ((i : ℕ) → i < n → f (at + i * step) ≡ g (there + i * step)) →

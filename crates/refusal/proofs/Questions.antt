@@ -1,26 +1,18 @@
--- The laws by which the checks are proved: what `ask`, `_then_`, `ask_each` and `on_pass` come to by what a check found.
+-- The laws by which the checks are proved: what `ask`, `_then_` and `ask_each` come to by what a check found.
 -- Assumes nothing.
-use mathlib.Core.Path.{◌≡◌, refl, sym, ◌∙◌, ap}
+use mathlib.Core.Path.{◌≡◌, refl, sym, ◌∙◌}
 use mathlib.Core.Bool.{Bool, true, false, ◌&&◌}
 use Prim.Native.Nat.{ℕ, zero, suc, ◌+◌, ◌-◌, ◌*◌, ◌≤◌, ◌<◌}
 use native.Mathlib.Omega.{arith}
 use native.Mathlib.Nat.{suc-mul}
 use lib.Dec.{eqb}
-use borrow.Author.Tests.{leb-true, le-leb, lt-leb}
+use borrow.Author.Tests.{leb-true, le-leb}
 use Rattle.refusal.specs.declared.Refusal.{Refusal}
 use Rattle.refusal.specs.declared.Refusal.TheVariants.{NoMark, WrongVersion, WrongLength, BadCode, BadValue, NoGroup, BadDate}
 use Rattle.refusal.specs.declared.Refusal.TheVariants.{BadPeriod, BadHoliday, BadUse, BadCarry, ShortOutput, BadInput}
 use Rattle.refusal.specs.declared.Refusal.TheVariants.{BadYear, BadChoice, ShortList, WrongReadings, BadFirstDate, ShortPage}
 use Rattle.std.specs.Prelude.{Ok, Err}
-use Rattle.refusal.specs.Questions.{Verdict, Pass, refusal_number, reported, ask, ◌then◌, ask_each, room_question, on_pass}
-
--- a verdict answered is also answered in figures
-pub as-reported : {answer verdict : Verdict} → answer ≡ verdict → (answer ≡ verdict) × (reported answer ≡ reported verdict)
-as-reported h = (h, ap reported h)
-
--- no verdict is both
-pub passed-not-refused : {A : Type 0} {r : Refusal} → Pass ≡ Err r → A
-passed-not-refused h = cc
+use Rattle.refusal.specs.Questions.{Verdict, Pass, refusal_number, ask, ◌then◌, ask_each, room_question}
 
 -- One question.
 pub ask-yes : {b : Bool} (r : Refusal) → b ≡ true → ask b r ≡ Pass
@@ -50,10 +42,6 @@ refused-first next h = rw h
 pub stops : {v question : Verdict} {r : Refusal} (next : Verdict) → v ≡ question → v ≡ Err r → Err r ≡ (question then next)
 stops next e t = sym (refused-first next (sym e ∙ t))
 
--- a check goes on to the next question after one that passed
-pub goes_on : {v question answer next : Verdict} → v ≡ question → v ≡ Pass → answer ≡ next → answer ≡ (question then next)
-goes_on e t h = h ∙ sym (then-pass _ (sym e ∙ t))
-
 -- so is the refusal r of the first two
 pub refused-second : (a b next : Verdict) {r : Refusal} → (a then b) ≡ Err r → (a then b then next) ≡ Err r
 refused-second (Ok _) b next h = refused-first next h
@@ -65,16 +53,8 @@ passed-second (Ok _) b next h = then-pass next h
 passed-second (Err r) b next h = cc
 
 -- Question 12.
-module _ (needed room : ℕ) where
-  pub room-enough : needed ≤ room → room_question needed room ≡ Pass
-  room-enough h = ask-yes (ShortOutput needed) (le-leb needed room h)
-
-  pub room-short : room < needed → room_question needed room ≡ Err (ShortOutput needed)
-  room-short h = ask-no (ShortOutput needed) (lt-leb needed room h)
-
--- What is answered, or left in memory, on a refusal.
-pub on-refused : {A : Type 0} {v : Verdict} {r : Refusal} (a b : A) → v ≡ Err r → on_pass v a b ≡ b
-on-refused a b h = rw h
+pub room-enough : (needed room : ℕ) → needed ≤ room → room_question needed room ≡ Pass
+room-enough needed room h = ask-yes (ShortOutput needed) (le-leb needed room h)
 
 -- A loop asks the n questions that are left, from `at` on, and answers `whole`: what is left to ask is all that counts.
 pub record Asking (question : ℕ → Verdict) (step n at : ℕ) (whole : Verdict) : Type 0 where
