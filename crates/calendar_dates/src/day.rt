@@ -101,20 +101,25 @@ impl CalendarDay {
         days_since_1996(self.date.year, self.t)
     }
 
-    // The day after: neither weekday nor t is counted anew.
-    pub fn following(self) -> CalendarDay
-        requires { is_date (next_day self) ≡ true }
-        ensures { result ≡ next_day self }
+    // The date, weekday and t of the day after, neither of the two counted anew. After the span's last day comes 1 January 2100, which
+    // is no CalendarDay.
+    pub fn day_after(self) -> (Date, u32, u32)
+        ensures { result ≡ (next_day self, weekday_of (next_day self), day_of_year (next_day self)) }
     {
         let date = self.date.next_day();
         let t = match (date.month, date.day) {
             (1, 1) => 1,
             _ => self.t + 1,
         };
-        CalendarDay {
-            date,
-            weekday: self.weekday % 7 + 1,
-            t,
-        }
+        (date, self.weekday % 7 + 1, t)
+    }
+
+    // The day after, where it is of the span.
+    pub fn following(self) -> CalendarDay
+        requires { is_date (next_day self) ≡ true }
+        ensures { result ≡ next_day self }
+    {
+        let (date, weekday, t) = self.day_after();
+        CalendarDay { date, weekday, t }
     }
 }

@@ -1,4 +1,4 @@
--- `CalendarDay::following` meets its contract: the weekday goes on with the day number, and t with it but for 1 January.
+-- `CalendarDay::day_after` meets its contract: the weekday goes on with the day number, and t with it but for 1 January.
 use mathlib.Core.Path.{◌≡◌, refl, ap}
 use mathlib.Core.Bool.{Bool, true, false, cond}
 use Prim.Native.Nat.{ℕ, ◌+◌, ◌-◌, ◌%◌, ◌≤◌}
@@ -8,7 +8,7 @@ use Rattle.calendar_dates.specs.declared.Date.{Date}
 use Rattle.calendar_dates.specs.Dates.{month_length, is_date, day_of_year, days_of_years, day_number, weekday_of, next_day}
 use Rattle.calendar_dates.proofs.Dates.{parts, january, day_in_range}
 use Rattle.calendar_dates.proofs.NextDay.{same_month, next_month, next_year, next-day-counts}
-use Rattle.calendar_dates.proofs.day.CalendarDay.following.Goals as goal
+use Rattle.calendar_dates.proofs.day.CalendarDay.day_after.Goals as goal
 
 new-year : (d : Date) → d.month ≡ 1 → d.day ≡ 1 → 1 ≡ day_of_year d
 unfolding day_of_year
@@ -41,9 +41,10 @@ weekday-next d real e = omega (arith, (next-day-counts d real).counts)
 pub overflow_add-t : goal.overflow_add-t
 overflow_add-t c = omega (arith, day_in_range _ c.self.invariant.0 c.self.invariant.2)
 
-pub invariant_of-result : goal.invariant_of-result
-invariant_of-result c =
+pub returns : goal.returns
+returns c =
     let d = c.self.inside.date in
     let real = c.self.invariant.0 in
     let n = c.next_day-date.ensures in
-    (rw (n, c.self.view_is) c.requires, rw n (weekday-next d real c.self.invariant.1), grind (arith, new-year, t-next d real c.self.invariant.2))
+    let t : c.match-date.t ≡ day_of_year (next_day d) = grind (arith, new-year, t-next d real c.self.invariant.2) in
+    rw (← c.self.view_is, n) (λ i. (next_day d, weekday-next d real c.self.invariant.1 i, t i))
