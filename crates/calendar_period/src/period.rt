@@ -9,7 +9,8 @@ use calendar_dates::CalendarDay;
 use refusal::Refusal;
 use std::marker::Model;
 
-// It has 1 to 1,461 days, all of them dates of the span.
+// It has at most 1,461 days, all of them dates of the span. One that passed questions 7 and 8 has at least one; only `of_days` makes
+// one without days.
 #[derive(Clone, Copy)]
 pub struct Period {
     first: CalendarDay,
@@ -25,7 +26,7 @@ impl Model for Period {
 
     ghost view = { λ period. record { first = period.first; days = period.days } };
 
-    ghost invariant = { λ period. (1 ≤ period.days) × (period.days ≤ 1_461) × AllDates period.days period.first };
+    ghost invariant = { λ period. (period.days ≤ 1_461) × AllDates period.days period.first };
 
     ghost inverse = { λ period. record { first = period.first; days = period.days } };
 }
@@ -59,7 +60,6 @@ impl Period {
 
     // The period of some days from a day on.
     pub fn of_days(first: CalendarDay, days: u32) -> Period
-        requires some { 1 ≤ days }
         requires few { days ≤ 1_461 }
         requires real { AllDates days first }
         ensures first { result.first ≡ first }
@@ -76,7 +76,6 @@ impl Period {
 
     pub fn days(self) -> u32
         ensures same { result ≡ self.days }
-        ensures some { 1 ≤ self.days }
         ensures few { self.days ≤ 1_461 }
         ensures real { AllDates self.days self.first }
     {

@@ -12,13 +12,6 @@ overflow_sub-days c =
     let from = c.day_number.ensures.same ∙ ap day_number first in
     omega (arith, begun-before left c.number_after.ensures from)
 
-pub of_days-requires-clause-some : goal.of_days-requires-clause-some
-of_days-requires-clause-some c =
-    let left = rw c.in_ok-start.ensures.cases.0 at c.self.invariant in
-    let first = c.new-first.ensures ∙ c.from.ensures in
-    let from = c.day_number.ensures.same ∙ ap day_number first in
-    omega (arith, begun-before left c.number_after.ensures from)
-
 pub of_days-requires-clause-few : goal.of_days-requires-clause-few
 of_days-requires-clause-few c =
     let left = rw c.in_ok-start.ensures.cases.0 at c.self.invariant in
