@@ -5,7 +5,7 @@ ghost use Rattle.refusal.specs.Questions.{Pass, answered};
 ghost use Rattle.calendar_dates.specs.Dates.{date_of, is_date};
 ghost use Rattle.calendar_period.specs.Period.{period_check};
 ghost use Rattle.calendar_reading_periods.specs.ReadingPeriods.{first_dates_question};
-ghost use Rattle.calendar_reading_periods.specs.Inside.{FirstDates, number_after, periods_of};
+ghost use Rattle.calendar_reading_periods.specs.Inside.{FirstDates, PeriodsLeft, number_after, periods_of};
 
 use crate::first_dates_question;
 use calendar_dates::{CalendarDay, Date};
@@ -39,7 +39,15 @@ impl<'a> Periods<'a> {
         ensures { result ≡ answered (first_dates_question first last starts.now) (periods_of last starts.now) }
     {
         first_dates_question(first, last, starts)?;
-        Ok(Periods { starts, last })
+        Ok(Periods::of_first_dates(starts, last))
+    }
+
+    // The periods of first dates that rise inside a span of at most 1,461 days, whose last date is given: no question is asked.
+    pub fn of_first_dates(starts: &'a [u32], last: u32) -> Periods<'a>
+        requires { PeriodsLeft last starts.now }
+        ensures { result ≡ periods_of last starts.now }
+    {
+        Periods { starts, last }
     }
 }
 

@@ -3,6 +3,6 @@ use mathlib.Core.Path.{◌∙◌, sym}
 use Rattle.calendar_reading_periods.proofs.ReadingPeriods.{all-left}
 use Rattle.calendar_reading_periods.proofs.adjacent.Periods.new.Goals as goal
 
-pub invariant_of-result : goal.invariant_of-result
-invariant_of-result c =
+pub of_first_dates-requires : goal.of_first_dates-requires
+of_first_dates-requires c =
     all-left c.args.first c.args.last c.args.starts.now c.requires (sym c.first_dates_question.ensures ∙ c.in_ok-first_dates_question.was)
