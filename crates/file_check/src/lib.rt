@@ -48,6 +48,6 @@ pub fn check_file(bytes: &[u8]) -> Result<ProfileFile<'_>, Refusal>
 {
     let file = ProfileFile::new(bytes)?;
     codes_question(file)?;
-    file_values::values_question(file)?;
+    file_values::values_question(file.layout(), bytes)?;
     Ok(file)
 }

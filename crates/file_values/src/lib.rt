@@ -4,11 +4,12 @@
 ghost use Rattle.std.specs.Prelude.{◌≡◌, ◌+◌, ◌*◌, ◌/◌, ◌≤◌, leb, length};
 ghost use Rattle.refusal.specs.declared.Refusal.TheVariants.{BadValue};
 ghost use Rattle.refusal.specs.Questions.{ask};
-ghost use Rattle.file_layout.specs.Header.{layout_of, profile_length};
+ghost use Rattle.file_layout.specs.Header.{profile_length};
+ghost use Rattle.file_layout.specs.Inside.{LaidOut};
 ghost use Rattle.file_values.specs.Values.{profile_values_question, values_question};
 ghost use Rattle.file_values.specs.Inside.{UpperBytes};
 
-use file_layout::{HEADER_LENGTH, ProfileFile};
+use file_layout::{HEADER_LENGTH, Layout};
 use refusal::Refusal;
 
 // The highest value that is accepted.
@@ -38,29 +39,29 @@ fn upper_bytes(values: &[u8]) -> u16
 }
 
 // Question 5, of the profile at `at`.
-fn profile_values_question(file: ProfileFile, at: usize) -> Result<(), Refusal>
-    requires { at + profile_length (layout_of file.bytes.now) ≤ length file.bytes.now }
-    ensures { result ≡ profile_values_question (layout_of file.entry.bytes.now) file.entry.bytes.now at }
+fn profile_values_question(layout: Layout, file: &[u8], at: usize) -> Result<(), Refusal>
+    requires { at + profile_length layout ≤ length file.now }
+    ensures { result ≡ profile_values_question layout file.now at }
 {
-    let values = file_layout::value_bytes(file.bytes, at);
+    let start = at + layout.before;
+    let values = &file[start..start + layout.entries * 2];
     if upper_bytes(values) % 256 <= SAFE_UPPER_BYTE {
         return Ok(());
     }
-    let layout = file.layout();
     for k in 0..layout.entries {
-        let place = at + layout.before + k * 2;
-        value_question(big_endian::word_at(file.bytes, place), place)?;
+        let place = start + k * 2;
+        value_question(big_endian::word_at(file, place), place)?;
     }
     Ok(())
 }
 
-// Question 5.
-pub fn values_question(file: ProfileFile) -> Result<(), Refusal>
-    ensures { result ≡ values_question (layout_of file.entry.bytes.now) file.entry.bytes.now }
+// Question 5. The layout stands beside the file, since it is asked under any layout that the file's length fits.
+pub fn values_question(layout: Layout, file: &[u8]) -> Result<(), Refusal>
+    requires { LaidOut layout file.now }
+    ensures { result ≡ values_question layout file.now }
 {
-    let layout = file.layout();
     for k in 0..layout.count {
-        profile_values_question(file, HEADER_LENGTH + k * layout.profile_length())?;
+        profile_values_question(layout, file, HEADER_LENGTH + k * layout.profile_length())?;
     }
     Ok(())
 }
