@@ -1,16 +1,20 @@
 -- Writing's question 5, asked of the lent values, is that of the file to be written. Assumes nothing.
 use mathlib.Core.Path.{◌≡◌, refl, sym, ◌∙◌, ap}
-use mathlib.Core.List.{List}
-use Prim.Native.Nat.{ℕ, ◌+◌, ◌*◌, ◌<◌}
+use mathlib.Core.List.{List, [], ◌∷◌}
+use Prim.Native.Nat.{ℕ, zero, suc, ◌+◌, ◌*◌, ◌≤◌, ◌<◌, max}
 use native.Mathlib.Omega.{arith}
 use lib.Dec.{leb}
 use lib.ListN.{length, take, drop, get_or, length-drop}
 use lib.Seq.{length-take-le}
+use borrow.Author.Tests.{le-leb}
+use Rattle.std.specs.List.{fold}
+use Rattle.std.proofs.Math.Nat.{le-max_left, le-max_right}
 use Rattle.lists.proofs.Strides.{get_or-places}
 use Rattle.big_endian.specs.BigEndian.{word_at, words_from, bytes_of}
 use Rattle.refusal.specs.declared.Refusal.TheVariants.{BadValue}
 use Rattle.refusal.specs.Questions.{Verdict}
-use Rattle.refusal.specs.Questions.{ask, ask_each}
+use Rattle.refusal.specs.Questions.{Pass, ask, ask_each}
+use Rattle.refusal.proofs.Questions.{ask-yes, each-pass}
 use Rattle.file_layout.specs.Header.{layout_of}
 use Rattle.file_values.specs.Values.{value_question, profile_values_question, values_question}
 use Rattle.file_written.specs.Written.{written}
@@ -25,6 +29,26 @@ value-asked file values at stand i h =
     ap (λ (l : List ℕ). get_or l i 0) (sym stand) ∙ get_or-places (word_at file) 2 (length values) at i 0 h
     in
     rw own
+
+-- no value is above the highest
+highest-before : (values : List ℕ) (highest : ℕ) → highest ≤ fold max highest values
+highest-before [] highest = omega arith
+highest-before (value ∷ values) highest = omega (arith, highest-before values (max highest value), le-max_left highest value)
+
+highest-each : (values : List ℕ) (highest i : ℕ) → i < length values → get_or values i 0 ≤ fold max highest values
+highest-each [] highest i h = absurd (omega arith)
+highest-each (value ∷ values) highest zero h = omega (arith, highest-before values (max highest value), le-max_right highest value)
+highest-each (value ∷ values) highest (suc i) h = highest-each values (max highest value) i (omega arith)
+
+-- so every value of a profile passes where the highest does
+pub highest-pass : (file values : List ℕ) (at : ℕ) → words_from file (length values) at ≡ values → fold max 0 values ≤ 20_000 →
+    Pass ≡ ask_each (value_question file) 2 (length values) at
+highest-pass file values at stand low =
+    sym
+    (each-pass (value_question file) 2 (length values) at
+    (λ i h.
+    sym (value-asked file values at stand i h)
+    ∙ ask-yes (BadValue (at + i * 2)) (le-leb (get_or values i 0) 20_000 (omega (arith, highest-each values 0 i h)))))
 
 -- the reader's question 5 of the file to be written, of the profile at one offset
 abbrev pub file_values : List ℕ → List ℕ → ℕ → Verdict
