@@ -25,6 +25,7 @@ pub fn find(file: ProfileFile, group: u8, place: usize) -> Result<usize, Refusal
 }
 
 // Questions 1 to 6: where the group's code stands, in any file.
+// Kept: file and group apart, as they come one by one over the C interface.
 pub fn find_checked(file: &[u8], group: u8) -> Result<usize, Refusal>
     ensures value { result ≡ answered (check file.now group) (group_offset file.now group) }
     ensures inside { IfOk result (λ at. at + profile_length (layout_of file.now) ≤ length file.now) }
@@ -33,6 +34,7 @@ pub fn find_checked(file: &[u8], group: u8) -> Result<usize, Refusal>
 }
 
 // The check beside locating: questions 1 to 6.
+// Kept: file and group apart, as they come one by one over the C interface.
 pub fn check(file: &[u8], group: u8) -> Result<(), Refusal>
     ensures value { result ≡ check file.now group }
     ensures result_value { reported result ≡ reported (check file.now group) }

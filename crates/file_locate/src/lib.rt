@@ -13,6 +13,7 @@ pub struct LocatedPart {
 }
 
 // The group's own value bytes, as that part of the lent file; on a refusal the part of length zero at its start.
+// Kept: file and group apart, as they come one by one over the C interface.
 pub fn locate(file: &[u8], group: u8) -> &[u8]
     ensures { Located file.entry group result }
 {

@@ -34,6 +34,7 @@ pub fn table_at(file: &[u8], at: usize) -> [u16; 864]
 }
 
 // Fills the first entries of `table` with the group's values and keeps those beyond; a refusal changes nothing.
+// Kept: file and group apart, as they come one by one over the C interface.
 pub fn read(file: &[u8], group: u8, table: &mut [u16]) -> Result<(), Refusal>
     ensures value { result ≡ read_check file.now group (length table.old) }
     ensures result_value { reported result ≡ reported (read_check file.now group (length table.old)) }

@@ -14,6 +14,7 @@ use file_layout::{HEADER_LENGTH, MARK, PROFILE_LENGTH, PROFILE_VALUES, VERSION};
 use refusal::Refusal;
 
 // Mark, version and count.
+// Kept: a count, since it is what is written; the buffer has the length of its room, and not that of a list of profiles.
 fn put_header(count: usize, buffer: &mut [u8])
     requires { (count < 256) × (6 ≤ length buffer.old) }
     ensures { buffer.new ≡ sets buffer.old 0 (mark ++ (bytes_of (1 ∷ []) ++ (count ∷ []))) }
@@ -51,6 +52,7 @@ fn put_profiles(codes: &[u8], values: &[u16], buffer: &mut [u8])
 }
 
 // Fills the first bytes of `buffer` with the file and keeps those beyond; a refusal changes nothing.
+// Kept: codes and values apart, as they come one by one over the C interface.
 pub fn write(codes: &[u8], values: &[u16], buffer: &mut [u8]) -> Result<(), Refusal>
     ensures value { result ≡ write_check codes.now values.now (length buffer.old) }
     ensures result_value { reported result ≡ reported (write_check codes.now values.now (length buffer.old)) }

@@ -40,6 +40,7 @@ fn codes_question(codes: &[u8]) -> Result<(), Refusal>
 }
 
 // The bytes of a file of `count` profiles.
+// Kept: a count, since the bytes follow from that number alone, and no buffer of that length is at hand.
 fn bytes_needed(count: usize) -> usize
     requires { count ≤ 11 }
     ensures { result ≡ 6 + count * 1729 }
@@ -48,6 +49,7 @@ fn bytes_needed(count: usize) -> usize
 }
 
 // All of writing's questions.
+// Kept: codes and values apart, as they come one by one over the C interface.
 #[tactic(auto, unfolding(crate::specs::WriteCheck::write_check))]
 pub fn write_check(codes: &[u8], values: &[u16], room: usize) -> Result<(), Refusal>
     ensures { result ≡ write_check codes.now values.now room }
