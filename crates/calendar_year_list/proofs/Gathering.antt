@@ -1,6 +1,6 @@
--- Days gone through in the calendar's order, each date put behind the others unless it is there already. Assumes nothing.
+-- Days gone through in the calendar's order, each date put behind the others unless it is the last of them. Assumes nothing.
 use mathlib.Core.Path.{◌≡◌, refl, sym, ◌∙◌, ap}
-use mathlib.Core.Bool.{or-false, or_assoc, Bool, true, false, not, cond, ◌&&◌, ◌||◌}
+use mathlib.Core.Bool.{or-false, or-true, or_assoc, Bool, true, false, not, cond, ◌&&◌, ◌||◌}
 use mathlib.Core.List.{List, [], ◌∷◌, ◌++◌}
 use Prim.Native.Nat.{ℕ, ◌+◌, ◌≤◌, ◌<◌}
 use native.Mathlib.Omega.{arith}
@@ -16,22 +16,29 @@ use Rattle.calendar_public_holidays.proofs.InOrder.{order-listed, order-rising, 
 use Rattle.calendar_year_list.specs.declared.Entry.{Entry}
 use Rattle.calendar_year_list.specs.Inside.{NotFalling, wanted}
 
+-- whether a date is the last one of a list
+abbrev pub is_last : ℕ → List ℕ → Bool
+is_last date [] = false
+is_last date (x ∷ []) = eqb x date
+is_last date (x ∷ y ∷ dates) = is_last date (y ∷ dates)
+
 -- the dates with those of some more days behind them
 abbrev pub appended : List ℕ → List Entry → List ℕ
 appended dates [] = dates
-appended dates (e ∷ entries) = appended (cond (e.wanted && not (listed e.date dates)) (dates ++ e.date ∷ []) dates) entries
+appended dates (e ∷ entries) = appended (cond (e.wanted && not (is_last e.date dates)) (dates ++ e.date ∷ []) dates) entries
 
--- both tests fail
-neither : (a b : Bool) → (a || b) ≡ false → (a ≡ false) × (b ≡ false)
-neither false b h = (refl, h)
-neither true b h = let z : ◌≡◌ {A = ℕ} 0 1 = cc in absurd (omega arith)
-
--- a date that is in no list before it stays in order behind the others
-rising-behind : (date : ℕ) (dates : List ℕ) → Rising dates → Each (λ x. x ≤ date) dates → listed date dates ≡ false → Rising (dates ++ date ∷ [])
-unfolding listed
+-- a date that no one is later than, and that is not the last, stays in order behind the others
+rising-behind : (date : ℕ) (dates : List ℕ) → Rising dates → Each (λ x. x ≤ date) dates → is_last date dates ≡ false → Rising (dates ++ date ∷ [])
 rising-behind date [] r b h = (tt, tt)
-rising-behind date (x ∷ []) r b h = (omega (arith, b.0, eqb-false x date (neither (eqb x date) false h).0), (tt, tt))
-rising-behind date (x ∷ y ∷ dates) r b h = (r.0, rising-behind date (y ∷ dates) r.1 b.1 (neither (eqb x date) (listed date (y ∷ dates)) h).1)
+rising-behind date (x ∷ []) r b h = (omega (arith, b.0, eqb-false x date h), (tt, tt))
+rising-behind date (x ∷ y ∷ dates) r b h = (r.0, rising-behind date (y ∷ dates) r.1 b.1 h)
+
+-- the last date is one of the list
+last-listed : (date : ℕ) (dates : List ℕ) → is_last date dates ≡ true → listed date dates ≡ true
+unfolding listed
+last-listed date [] h = h
+last-listed date (x ∷ []) h = rw h refl
+last-listed date (x ∷ y ∷ dates) h = rw (last-listed date (y ∷ dates) h) (or-true (eqb x date))
 
 -- which dates a list has with one more
 listed-behind : (d date : ℕ) (dates : List ℕ) → listed d (dates ++ date ∷ []) ≡ (listed d dates || eqb date d)
@@ -43,17 +50,17 @@ listed-behind d date (x ∷ dates) =
 appended-listed : (d : ℕ) (dates : List ℕ) (entries : List Entry) → listed d (appended dates entries) ≡ (listed d dates || listed d (wanted entries))
 unfolding listed
 appended-listed d dates [] = sym (or-false (listed d dates))
-appended-listed d dates (e ∷ entries) = go e.wanted (listed e.date dates) refl (λ more. appended-listed d more entries)
+appended-listed d dates (e ∷ entries) = go e.wanted (is_last e.date dates) refl (λ more. appended-listed d more entries)
   where
     there : (rest b : Bool) → eqb e.date d ≡ b → listed e.date dates ≡ true → (listed d dates || rest) ≡ (listed d dates || (b || rest))
     there rest true same l =
         let here : listed d dates ≡ true = rw (eqb-true e.date d same) at l in rw here
     there rest false other l = refl
 
-    go : (w b : Bool) → listed e.date dates ≡ b → ((more : List ℕ) → listed d (appended more entries) ≡ (listed d more || listed d (wanted entries))) →
+    go : (w b : Bool) → is_last e.date dates ≡ b → ((more : List ℕ) → listed d (appended more entries) ≡ (listed d more || listed d (wanted entries))) →
         listed d (appended (cond (w && not b) (dates ++ e.date ∷ []) dates) entries) ≡ (listed d dates || listed d (cond w (e.date ∷ wanted entries) (wanted entries)))
     go false b l rest = rest dates
-    go true true l rest = rest dates ∙ there _ (eqb e.date d) refl l
+    go true true l rest = rest dates ∙ there _ (eqb e.date d) refl (last-listed e.date dates l)
     go true false l rest =
         rest (dates ++ e.date ∷ [])
         ∙ rw (listed-behind d e.date dates) (or_assoc (listed d dates) (eqb e.date d) (listed d (wanted entries)))
@@ -72,9 +79,9 @@ all-more date dates (e ∷ entries) a u = (with-one-more date dates e a.0 u.0, a
 
 appended-rising : (dates : List ℕ) (entries : List Entry) → Rising dates → Each (UpTo dates) entries → NotFalling entries → Rising (appended dates entries)
 appended-rising dates [] r u n = r
-appended-rising dates (e ∷ entries) r u n = go e.wanted (listed e.date dates) refl (λ more s v. appended-rising more entries s v n.1)
+appended-rising dates (e ∷ entries) r u n = go e.wanted (is_last e.date dates) refl (λ more s v. appended-rising more entries s v n.1)
   where
-    go : (w b : Bool) → listed e.date dates ≡ b → ((more : List ℕ) → Rising more → Each (UpTo more) entries → Rising (appended more entries)) →
+    go : (w b : Bool) → is_last e.date dates ≡ b → ((more : List ℕ) → Rising more → Each (UpTo more) entries → Rising (appended more entries)) →
         Rising (appended (cond (w && not b) (dates ++ e.date ∷ []) dates) entries)
     go false b l rest = rest dates r u.1
     go true true l rest = rest dates r u.1
@@ -96,14 +103,14 @@ module _ (entries : List Entry) (i : ℕ) (default : Entry) (dates : List ℕ) (
   abbrev day : Entry
   day = get_or entries i default
 
-  turn : appended (cond (day.wanted && not (listed day.date dates)) (dates ++ day.date ∷ []) dates) (drop (i + 1) entries) ≡ appended dates (drop i entries)
+  turn : appended (cond (day.wanted && not (is_last day.date dates)) (dates ++ day.date ∷ []) dates) (drop (i + 1) entries) ≡ appended dates (drop i entries)
   turn = rw (add-one, drop-cons entries i default h) refl
 
   pub not-wanted : day.wanted ≡ false → appended dates (drop (i + 1) entries) ≡ appended dates (drop i entries)
   not-wanted w = rw w at turn
 
-  pub there-already : day.wanted ≡ true → listed day.date dates ≡ true → appended dates (drop (i + 1) entries) ≡ appended dates (drop i entries)
+  pub there-already : day.wanted ≡ true → is_last day.date dates ≡ true → appended dates (drop (i + 1) entries) ≡ appended dates (drop i entries)
   there-already w l = rw (w, l) at turn
 
-  pub put-behind : day.wanted ≡ true → listed day.date dates ≡ false → appended (dates ++ day.date ∷ []) (drop (i + 1) entries) ≡ appended dates (drop i entries)
+  pub put-behind : day.wanted ≡ true → is_last day.date dates ≡ false → appended (dates ++ day.date ∷ []) (drop (i + 1) entries) ≡ appended dates (drop i entries)
   put-behind w l = rw (w, l) at turn

@@ -77,7 +77,7 @@ fn wanted_dates(days: &[Entry]) -> ArrayVec<u32, MOST_DAYS>
 {
     let mut dates = ArrayVec::new();
     for day in days {
-        if day.wanted && !dates.contains(&day.date) {
+        if day.wanted && dates.last() != Some(&day.date) {
             dates.push(day.date);
         }
     }
