@@ -14,7 +14,7 @@ golden_number year = year % 19 + 1
 unfoldable pub century : ℕ → ℕ
 century year = year / 100 + 1
 
--- the solar correction: the leap days left out to keep in step with the sun, as in 1700, 1800, 1900 and next in 2100
+-- the solar correction: the leap days that the Gregorian calendar leaves out, as in 1700, 1800, 1900 and next in 2100
 unfoldable pub solar_correction : ℕ → ℕ
 solar_correction year = (3 * century year) / 4 - 12
 

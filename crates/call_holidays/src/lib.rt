@@ -9,7 +9,7 @@ use calendar_movable_days::Year;
 use refusal::Refusal;
 
 // The answer in numbers: number and place, 0 when accepted, and the list's length, 0 when refused.
-// Kept: the C interface has a struct of this name for it, and another, of the same fields, for a response.
+// Kept: a report of its own, though another has the same fields, since each call gives its length a meaning of its own.
 #[repr(C)]
 #[derive(Clone, Copy, Default)]
 pub struct HolidaysReport {

@@ -3,7 +3,7 @@
 
 ghost use Rattle.std.specs.Prelude.{◌≡◌, ◌&&◌, leb, Err, MatchResult};
 ghost use Rattle.refusal.specs.declared.Refusal.TheVariants.{BadCode};
-ghost use Rattle.refusal.specs.Questions.{ask, Pass};
+ghost use Rattle.refusal.specs.Questions.{ask, Pass, reported};
 ghost use Rattle.file_layout.specs.Header.{layout_of};
 ghost use Rattle.file_check.specs.Inside.{is_above};
 ghost use Rattle.file_check.specs.Check.{codes_question, file_check};
@@ -42,9 +42,12 @@ fn codes_question(file: ProfileFile) -> Result<(), Refusal>
 // Questions 1 to 5.
 #[tactic(auto, unfolding(crate::specs::Check::file_check))]
 pub fn check_file(bytes: &[u8]) -> Result<ProfileFile<'_>, Refusal>
-    ensures { MatchResult result
+    ensures value { MatchResult result
         (λ file. (file_check bytes.now ≡ Pass) × (file.bytes ≡ bytes.entry))
         (λ refusal. file_check bytes.now ≡ Err refusal) }
+    ensures result_value { MatchResult result
+        (λ file. reported (file_check bytes.now) ≡ reported Pass)
+        (λ refusal. reported (file_check bytes.now) ≡ reported (Err refusal)) }
 {
     let file = ProfileFile::new(bytes)?;
     codes_question(file)?;

@@ -11,7 +11,7 @@ use text::Page;
 pub const PAGE_LENGTH: usize = 65_536;
 
 // The answer in numbers: number and place, 0 when the text was written, and its length, 0 when refused.
-// Kept: the C interface has a struct of this name for it, and another, of the same fields, for the holidays of a year.
+// Kept: a report of its own, though another has the same fields, since each call gives its length a meaning of its own.
 #[repr(C)]
 #[derive(Clone, Copy, Default)]
 pub struct ResponseReport {
