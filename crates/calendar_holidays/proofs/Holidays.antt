@@ -1,22 +1,23 @@
 -- A list that is in order rises, so a date is listed just where it comes before a later one.
 -- Assumes nothing.
-use mathlib.Core.Path.{◌≡◌, refl, ap}
-use mathlib.Core.Bool.{Bool, true, false, ◌&&◌, ◌||◌}
+use mathlib.Core.Path.{◌≡◌, refl, ◌∙◌, ap}
+use mathlib.Core.Bool.{Bool, true, false, cond, ◌&&◌, ◌||◌}
 use mathlib.Core.List.{List, [], ◌∷◌}
 use Prim.Native.Nat.{ℕ, suc, ◌+◌, ◌-◌, ◌*◌, ◌≤◌, ◌<◌}
 use native.Mathlib.Omega.{arith}
 use native.Mathlib.Numerals.{add-one}
 use lib.Dec.{ltb, eqb}
-use lib.ListN.{length, get_or}
-use Rattle.std.specs.List.{slice_index, list_any}
+use lib.ListN.{length, drop, get_or}
+use Rattle.std.specs.List.{slice_index, list_any, prefix_len}
 use Rattle.std.specs.List.Sorted.{IsStrictlyIncreasing}
 use Rattle.std.proofs.lemmas.List.Kept.{AllPairs-from_increasing}
-use borrow.Author.Tests.{ltb-true, ne_eqb}
+use borrow.Author.Tests.{ltb-true, ltb-false, ne_eqb}
 use Rattle.refusal.specs.declared.Refusal.TheVariants.{BadHoliday}
 use Rattle.refusal.specs.Questions.{Pass}
 use Rattle.refusal.proofs.Questions.{ask-passed, each-passed, both}
 use Rattle.calendar_dates.specs.Dates.{date_of, is_date}
 use Rattle.calendar_holidays.specs.Holidays.{listed, holiday_question, holidays_question}
+use Rattle.calendar_holidays.specs.Inside.{entries_from}
 
 -- whether a list has a date is what the library's search tells
 pub listed_any : (date : ℕ) (xs : List ℕ) → list_any (λ x. eqb x date) xs ≡ listed date xs
@@ -30,7 +31,7 @@ unfolding listed
 listed-behind date whole {x} e h = rw (e, ne_eqb x date (λ e. omega arith))
 
 -- of nothing nothing is listed
-pub listed-none : (date : ℕ) (whole : List ℕ) → length whole ≡ 0 → false ≡ listed date whole
+listed-none : (date : ℕ) (whole : List ℕ) → length whole ≡ 0 → false ≡ listed date whole
 unfolding listed
 listed-none date [] e = refl
 listed-none date (x ∷ xs) e = absurd (omega arith)
@@ -82,3 +83,37 @@ listed-first date whole {x} {xs} e rising h = rw e (go (eqb x date) refl)
     go : (b : Bool) → eqb x date ≡ b → b ≡ (b || listed date xs)
     go true e = refl
     go false e = nowhere date xs (λ i l. omega (arith, later i l))
+
+-- The entries from a date on: they have each date that is not earlier just where the list has it.
+pub listed-from : (date later : ℕ) (xs : List ℕ) → date ≤ later → listed later (entries_from date xs) ≡ listed later xs
+listed-from date later [] h = refl
+listed-from date later (x ∷ xs) h = go (ltb x date) refl (listed-from date later xs h)
+  where
+    n : ℕ
+    n = prefix_len (λ entry. ltb entry date) xs
+
+    go : (b : Bool) → ltb x date ≡ b → listed later (drop n xs) ≡ listed later xs → listed later (drop (cond b (1 + n) 0) (x ∷ xs)) ≡ listed later (x ∷ xs)
+    go true e rest =
+        let one : 1 + n ≡ suc n = omega arith in
+        rw one (rest ∙ listed-behind later (x ∷ xs) refl (omega (arith, ltb-true x date e)))
+    go false e rest = refl
+
+-- where there are none, the list does not have the date
+pub listed-ends : (date : ℕ) (xs : List ℕ) → length (entries_from date xs) < 1 → false ≡ listed date xs
+listed-ends date xs h = listed-none date (entries_from date xs) (omega arith) ∙ listed-from date date xs (omega arith)
+
+-- the first of them is the date, or the list does not have it
+pub listed-begins : (date : ℕ) (xs : List ℕ) → IsStrictlyIncreasing xs → 0 < length (entries_from date xs) →
+    eqb (get_or (entries_from date xs) 0 0) date ≡ listed date xs
+listed-begins date [] rising = λ some. absurd (omega arith)
+listed-begins date (x ∷ xs) rising = go (ltb x date) refl (listed-begins date xs (rest-rises (x ∷ xs) refl rising))
+  where
+    n : ℕ
+    n = prefix_len (λ entry. ltb entry date) xs
+
+    go : (b : Bool) → ltb x date ≡ b → (0 < length (drop n xs) → eqb (get_or (drop n xs) 0 0) date ≡ listed date xs) →
+        0 < length (drop (cond b (1 + n) 0) (x ∷ xs)) → eqb (get_or (drop (cond b (1 + n) 0) (x ∷ xs)) 0 0) date ≡ listed date (x ∷ xs)
+    go true e rest some =
+        let one : 1 + n ≡ suc n = omega arith in
+        rw one (rest (rw one at some) ∙ listed-behind date (x ∷ xs) refl (omega (arith, ltb-true x date e)))
+    go false e rest some = listed-first date (x ∷ xs) refl rising (omega (arith, ltb-false x date e))

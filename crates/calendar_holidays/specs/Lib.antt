@@ -1,1 +1,2 @@
 pub mod Holidays
+pub mod Inside

@@ -36,12 +36,10 @@ impl<'a> HolidaysAhead<'a> {
         ensures now { result ≡ listed date self.old }
         ensures later { (later : ℕ) → date ≤ later → listed later self.new ≡ listed later self.old }
     {
-        while let Some((&next, later)) = self.ahead.split_first() {
-            if date <= next {
-                return next == date;
-            }
-            self.ahead = later;
+        self.ahead = crate::entries_from(self.ahead, date);
+        match self.ahead {
+            [next, ..] => *next == date,
+            [] => false,
         }
-        false
     }
 }

@@ -3,8 +3,10 @@
 
 mod ahead;
 
-ghost use Rattle.std.specs.Prelude.{◌≡◌, ◌<◌, length};
+ghost use Rattle.std.specs.Prelude.{◌≡◌, ◌<◌, ◌≤◌, ltb, length};
+ghost use Rattle.std.specs.List.{prefix_len};
 ghost use Rattle.calendar_holidays.specs.Holidays.{listed, holiday_question, holidays_question};
+ghost use Rattle.calendar_holidays.specs.Inside.{entries_from};
 
 pub use ahead::HolidaysAhead;
 use calendar_dates::Date;
@@ -15,6 +17,21 @@ pub fn is_listed(date: u32, holidays: &[u32]) -> bool
     ensures { result ≡ listed date holidays.now }
 {
     holidays.contains(&date)
+}
+
+// How many entries a list begins with that are earlier than a date.
+fn earlier_entries(holidays: &[u32], date: u32) -> usize
+    ensures value { result ≡ prefix_len (λ entry. ltb entry date) holidays.now }
+    ensures inside { result ≤ length holidays.now }
+{
+    holidays.iter().take_while(|entry| **entry < date).count()
+}
+
+// The entries from the first one on that is not earlier than a date.
+pub fn entries_from(holidays: &[u32], date: u32) -> &[u32]
+    ensures { result.now ≡ entries_from date holidays.now }
+{
+    &holidays[earlier_entries(holidays, date)..]
 }
 
 // Question 9, of one entry.

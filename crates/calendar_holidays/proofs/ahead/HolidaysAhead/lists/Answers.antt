@@ -1,22 +1,18 @@
--- `HolidaysAhead::lists` meets its contract: the entries passed over are earlier than the date and all later ones.
-use mathlib.Core.Path.{◌∙◌}
-use native.Mathlib.Omega.{arith}
-use Rattle.calendar_holidays.proofs.Holidays.{listed-behind, listed-none, rest-rises, listed-first}
+-- `HolidaysAhead::lists` meets its contract: the entries left out are earlier than the date and all later ones.
+use Rattle.calendar_holidays.proofs.Holidays.{listed-from, listed-ends, listed-begins}
 use Rattle.calendar_holidays.proofs.ahead.HolidaysAhead.lists.Goals as goal
-
-pub returns-then-date-next-clause-now : goal.returns-then-date-next-clause-now
-returns-then-date-next-clause-now c =
-    let loop = c.loop-next.invariant in
-    listed-first c.args.date _ c.in-Some.ensures.cases.0 loop.rising c.if-date-next.true ∙ loop.same c.args.date (omega arith)
-
-pub loop-next-preserved : goal.loop-next-preserved
-loop-next-preserved c =
-    let loop = c.loop-next.invariant in
-    let first = c.in-Some.ensures.cases in
-    record {
-      rising = rest-rises _ first.0 loop.rising;
-      same = λ later h. listed-behind later _ first.0 (omega arith) ∙ loop.same later h;
-    }
+use Rattle.calendar_holidays.proofs.ahead.HolidaysAhead.lists.Goals.{in-empty, in-len1-up}
 
 pub returns-clause-now : goal.returns-clause-now
-returns-clause-now c = listed-none _ _ c.in_default.ensures.cases ∙ c.loop-next.invariant.same c.args.date (omega arith)
+returns-clause-now c =
+    let date = c.args.date in
+    let before = c.self.inside.ahead.now in
+    let is = c.entries_from-self-inside.ensures in
+    elim c.if-self-lt1.branch [
+      | in-empty w ↦ rw (← c.self.view_is, w.result-is) (listed-ends date before (rw is at w.in-empty.len_below))
+      | in-len1-up w ↦ rw (← c.self.view_is, w.result-is, is) (listed-begins date before c.self.invariant (rw is at w.in-len1-up.len_at_least))
+    ]
+
+pub returns-clause-later : goal.returns-clause-later
+returns-clause-later c =
+    λ later h. rw (c.entries_from-self-inside.ensures, ← c.self.view_is) (listed-from c.args.date later c.self.inside.ahead.now h)
