@@ -1,18 +1,18 @@
--- The seventeen days of a year do stand in the calendar's order. Assumes nothing.
-use mathlib.Core.Bool.{Bool, true, ◌&&◌}
-use mathlib.Core.List.{List, [], ◌∷◌, map}
-use Prim.Native.Nat.{ℕ, ◌≤◌}
+-- The days of a year that are wanted do stand in the calendar's order. Assumes nothing.
+use mathlib.Core.Bool.{Bool, true, false, cond, ◌&&◌}
+use mathlib.Core.List.{List, [], ◌∷◌}
+use Prim.Native.Nat.{ℕ, ◌≤◌, ◌/◌, ◌%◌}
 use native.Mathlib.Omega.{arith}
-use lib.Dec.{T, leb, leb→le}
+use lib.Dec.{T, leb, eqb, leb→le}
 use mir.Facts.{and_yes}
+use Rattle.std.specs.Prelude.{Option, None, Some}
 use Rattle.calendar_dates.specs.Dates.{leap_days, month_length, days_of_months, day_of_year, days_of_years, day_number, weekday_of, next_day, days_later}
 use Rattle.calendar_movable_days.specs.Counted.{march_day, days_until}
 use Rattle.calendar_movable_days.specs.Easter.{golden_number, century, solar_correction, lunar_correction, cycle_epact, epact, paschal_full_moon, easter_day}
 use Rattle.calendar_movable_days.specs.Inside.{InSpan}
 use Rattle.calendar_movable_days.proofs.Years.{in-year}
 use Rattle.lists.specs.Lists.{Each}
-use Rattle.calendar_year_list.specs.declared.Entry.{Entry}
-use Rattle.calendar_year_list.specs.Inside.{calendar_days, NotFalling}
+use Rattle.calendar_year_list.specs.Inside.{calendar_days, wanted, NotFalling}
 
 -- no date is later than the next one
 abbrev rises : List ℕ → Bool
@@ -20,18 +20,45 @@ rises [] = true
 rises (date ∷ []) = true
 rises (date ∷ next ∷ dates) = leb date next && rises (next ∷ dates)
 
-not-falling : (entries : List Entry) → T (rises (map (λ e. e.date) entries)) → NotFalling entries
+not-falling : (dates : List ℕ) → T (rises dates) → NotFalling dates
 not-falling [] t = tt
-not-falling (e ∷ []) t = (tt, tt)
-not-falling (e ∷ f ∷ entries) t =
-    let both = and_yes (leb e.date f.date) (rises (f.date ∷ map (λ e. e.date) entries)) t in
-    let rest = not-falling (f ∷ entries) both.1 in
-    ((leb→le e.date f.date both.0, all_later entries rest.0 (leb→le e.date f.date both.0)), rest)
+not-falling (date ∷ []) t = (tt, tt)
+not-falling (date ∷ next ∷ dates) t =
+    let both = and_yes (leb date next) (rises (next ∷ dates)) t in
+    let rest = not-falling (next ∷ dates) both.1 in
+    ((leb→le date next both.0, all_later dates rest.0 (leb→le date next both.0)), rest)
   where
-    all_later : (entries : List Entry) → Each (λ later. f.date ≤ later.date) entries → e.date ≤ f.date → Each (λ later. e.date ≤ later.date) entries
+    all_later : (dates : List ℕ) → Each (λ later. next ≤ later) dates → date ≤ next → Each (λ later. date ≤ later) dates
     all_later [] a h = tt
-    all_later (later ∷ entries) a h = (omega (arith, a.0), all_later entries a.1 h)
+    all_later (later ∷ dates) a h = (omega (arith, a.0), all_later dates a.1 h)
 
-pub calendar-order : (year choice : ℕ) → InSpan year → NotFalling (calendar_days year choice)
-unfolding leap_days month_length days_of_months day_of_year days_of_years day_number weekday_of next_day days_later golden_number century solar_correction lunar_correction cycle_epact epact paschal_full_moon march_day days_until easter_day
-calendar-order year choice s = not-falling (calendar_days year choice) (in-year (λ y. rises (map (λ e. e.date) (calendar_days y 0))) tt year s)
+-- the days at which a flag is set
+abbrev picked : List Bool → List ℕ → List (Option ℕ)
+picked [] dates = []
+picked (flag ∷ flags) [] = []
+picked (flag ∷ flags) (date ∷ dates) = cond flag (Some date) None ∷ picked flags dates
+
+picked-later : (first : ℕ) (flags : List Bool) (dates : List ℕ) → Each (λ later. first ≤ later) dates → Each (λ later. first ≤ later) (wanted (picked flags dates))
+picked-later first [] dates a = tt
+picked-later first (flag ∷ flags) [] a = tt
+picked-later first (true ∷ flags) (date ∷ dates) a = (a.0, picked-later first flags dates a.1)
+picked-later first (false ∷ flags) (date ∷ dates) a = picked-later first flags dates a.1
+
+picked-not-falling : (flags : List Bool) (dates : List ℕ) → NotFalling dates → NotFalling (wanted (picked flags dates))
+picked-not-falling [] dates n = tt
+picked-not-falling (flag ∷ flags) [] n = tt
+picked-not-falling (true ∷ flags) (date ∷ dates) n = (picked-later date flags dates n.0, picked-not-falling flags dates n.1)
+picked-not-falling (false ∷ flags) (date ∷ dates) n = picked-not-falling flags dates n.1
+
+abbrev flags : ℕ → List Bool
+flags choice =
+    true ∷ eqb (choice % 2) 1 ∷ true ∷ true ∷ true ∷ true ∷ true ∷ true ∷ true ∷ eqb (choice / 2 % 2) 1 ∷ eqb (choice / 4 % 2) 1 ∷ true
+    ∷ eqb (choice / 8 % 2) 1 ∷ eqb (choice / 16 % 2) 1 ∷ eqb (choice / 32 % 2) 1 ∷ true ∷ true ∷ []
+
+-- all seventeen
+abbrev all_days : ℕ → List ℕ
+all_days year = wanted (calendar_days year 63)
+
+pub calendar_order : (year choice : ℕ) → InSpan year → NotFalling (wanted (calendar_days year choice))
+unfolding leap_days month_length days_of_months day_of_year days_of_years day_number weekday_of next_day days_later golden_number century solar_correction lunar_correction cycle_epact epact paschal_full_moon march_day days_until easter_day calendar_days
+calendar_order year choice s = picked-not-falling (flags choice) (all_days year) (not-falling (all_days year) (in-year (λ y. rises (all_days y)) tt year s))

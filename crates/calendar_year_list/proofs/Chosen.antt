@@ -7,39 +7,40 @@ use Prim.Native.Nat.{ℕ, ◌+◌, ◌/◌, ◌%◌}
 use native.Mathlib.Nat.{zero-add}
 use native.Mathlib.Omega.{arith}
 use lib.Dec.{ltb, eqb}
+use Rattle.std.specs.Prelude.{Option, None, Some}
 use borrow.Author.Tests.{lt-ltb}
 use Rattle.calendar_dates.specs.declared.Date.{Date}
 use Rattle.calendar_dates.specs.Dates.{number_of}
 use Rattle.calendar_holidays.specs.Holidays.{listed}
 use Rattle.calendar_public_holidays.specs.Days.{federal_days, regional_days}
 use Rattle.calendar_public_holidays.specs.YearHolidays.{chosen, chosen_days, in_order, year_holidays}
-use Rattle.calendar_year_list.specs.declared.Entry.{Entry}
-use Rattle.calendar_year_list.specs.Inside.{federal, regional, calendar_days, wanted}
+use Rattle.calendar_year_list.specs.Inside.{regional, calendar_days, wanted}
 use Rattle.calendar_public_holidays.proofs.InOrder.{order-listed, order-rising, one_list}
 
--- How often a date is met among the entries that are wanted.
-abbrev meets : ℕ → Entry → ℕ
-meets d e = cond e.wanted (cond (eqb e.date d) 1 0) 0
+-- How often a date is met among the days that are wanted.
+abbrev meets : ℕ → Option ℕ → ℕ
+meets d None = 0
+meets d (Some date) = cond (eqb date d) 1 0
 
-abbrev count : ℕ → List Entry → ℕ
+abbrev count : ℕ → List (Option ℕ) → ℕ
 count d [] = 0
-count d (e ∷ entries) = meets d e + count d entries
+count d (day ∷ days) = meets d day + count d days
 
-listed-counted : (d : ℕ) (entries : List Entry) → listed d (wanted entries) ≡ ltb 0 (count d entries)
+listed-counted : (d : ℕ) (days : List (Option ℕ)) → listed d (wanted days) ≡ ltb 0 (count d days)
 unfolding listed
 listed-counted d [] = refl
-listed-counted d (e ∷ entries) = go e.wanted (eqb e.date d) refl (listed-counted d entries)
+listed-counted d (None ∷ days) = rw (zero-add (count d days)) (listed-counted d days)
+listed-counted d (Some date ∷ days) = go (eqb date d) refl (listed-counted d days)
   where
-    go : (w b : Bool) → eqb e.date d ≡ b → listed d (wanted entries) ≡ ltb 0 (count d entries) →
-        listed d (cond w (e.date ∷ wanted entries) (wanted entries)) ≡ ltb 0 (cond w (cond b 1 0) 0 + count d entries)
-    go true true t h = rw t (sym (lt-ltb 0 (1 + count d entries) (omega arith)))
-    go true false t h = rw (t, zero-add (count d entries)) h
-    go false b t h = rw (zero-add (count d entries)) h
+    go : (b : Bool) → eqb date d ≡ b → listed d (wanted days) ≡ ltb 0 (count d days) →
+        listed d (date ∷ wanted days) ≡ ltb 0 (cond b 1 0 + count d days)
+    go true t h = rw t (sym (lt-ltb 0 (1 + count d days) (omega arith)))
+    go false t h = rw (t, zero-add (count d days)) h
 
 -- The paper's order: the federal days, then the regional ones with their bits.
-abbrev flagged : ℕ → List Date → List Entry
+abbrev flagged : ℕ → List Date → List (Option ℕ)
 flagged bits [] = []
-flagged bits (d ∷ days) = regional bits d ∷ flagged (bits / 2) days
+flagged bits (d ∷ days) = regional bits (number_of d) ∷ flagged (bits / 2) days
 
 chosen-flagged : (bits : ℕ) (days : List Date) → map number_of (chosen bits days) ≡ wanted (flagged bits days)
 unfolding chosen
@@ -48,17 +49,20 @@ chosen-flagged bits (d ∷ days) = go (eqb (bits % 2) 1) (chosen-flagged (bits /
   where
     go : (b : Bool) → map number_of (chosen (bits / 2) days) ≡ wanted (flagged (bits / 2) days) →
         map number_of (cond b (d ∷ chosen (bits / 2) days) (chosen (bits / 2) days))
-        ≡ cond b (number_of d ∷ wanted (flagged (bits / 2) days)) (wanted (flagged (bits / 2) days))
+        ≡ wanted (cond b (Some (number_of d)) None ∷ flagged (bits / 2) days)
     go true h = ap (λ dates. number_of d ∷ dates) h
     go false h = h
 
-abbrev paper_days : ℕ → ℕ → List Entry
+abbrev federal : Date → Option ℕ
+federal d = Some (number_of d)
+
+abbrev paper_days : ℕ → ℕ → List (Option ℕ)
 paper_days year choice = map federal (federal_days year) ++ flagged choice (regional_days year)
 
-federal-first : (days rest : List Date) (entries : List Entry) → map number_of rest ≡ wanted entries →
-    map number_of (days ++ rest) ≡ wanted (map federal days ++ entries)
-federal-first [] rest entries h = h
-federal-first (d ∷ days) rest entries h = ap (λ dates. number_of d ∷ dates) (federal-first days rest entries h)
+federal-first : (days rest : List Date) (others : List (Option ℕ)) → map number_of rest ≡ wanted others →
+    map number_of (days ++ rest) ≡ wanted (map federal days ++ others)
+federal-first [] rest others h = h
+federal-first (d ∷ days) rest others h = ap (λ dates. number_of d ∷ dates) (federal-first days rest others h)
 
 chosen-days : (year choice : ℕ) → chosen_days year choice ≡ wanted (paper_days year choice)
 unfolding chosen_days
@@ -72,6 +76,7 @@ orders : (a b c d e f g h i j k l m n o p q : ℕ) →
 orders a b c d e f g h i j k l m n o p q = omega arith
 
 count_same : (year choice d : ℕ) → count d (calendar_days year choice) ≡ count d (paper_days year choice)
+unfolding calendar_days
 count_same year choice d =
     let bit-2 : choice / 2 / 2 ≡ choice / 4 = omega arith in
     let bit-3 : choice / 4 / 2 ≡ choice / 8 = omega arith in
@@ -80,9 +85,9 @@ count_same year choice d =
     rw (bit-2, bit-3, bit-4, bit-5) (orders _ _ _ _ _ _ _ _ _ _ _ _ _ _ _ _ _)
 
 -- those of the calendar that are wanted, in order, are the holiday list
-pub wanted-list : (year choice : ℕ) → in_order (wanted (calendar_days year choice)) ≡ year_holidays year choice
+pub wanted_list : (year choice : ℕ) → in_order (wanted (calendar_days year choice)) ≡ year_holidays year choice
 unfolding year_holidays
-wanted-list year choice =
+wanted_list year choice =
     one_list (in_order (wanted (calendar_days year choice))) (in_order (chosen_days year choice)) (order-rising (wanted (calendar_days year choice))) (order-rising (chosen_days year choice))
     (λ d.
     order-listed d (wanted (calendar_days year choice))

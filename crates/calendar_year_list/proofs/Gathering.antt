@@ -1,116 +1,102 @@
--- Days gone through in the calendar's order, each date put behind the others unless it is the last of them. Assumes nothing.
+-- Dates gone through in the calendar's order, each put behind the others unless it is the last of them. Assumes nothing.
 use mathlib.Core.Path.{◌≡◌, refl, sym, ◌∙◌, ap}
-use mathlib.Core.Bool.{or-false, or-true, or_assoc, Bool, true, false, not, cond, ◌&&◌, ◌||◌}
+use mathlib.Core.Bool.{Bool, true, false, cond}
 use mathlib.Core.List.{List, [], ◌∷◌, ◌++◌}
-use Prim.Native.Nat.{ℕ, ◌+◌, ◌≤◌, ◌<◌}
+use Prim.Native.Nat.{ℕ, suc, ◌+◌, ◌-◌, ◌≤◌, ◌<◌}
 use native.Mathlib.Omega.{arith}
 use native.Mathlib.Numerals.{add-one}
-use lib.ListN.{length, get_or, drop}
+use lib.ListN.{length, length-append, get_or, drop, drop_of_length-le}
 use lib.Seq.{drop-cons}
-use lib.Dec.{eqb}
-use borrow.Author.Tests.{eqb-true, eqb-false}
-use Rattle.lists.specs.Lists.{Each, Rising}
-use Rattle.calendar_holidays.specs.Holidays.{listed}
-use Rattle.calendar_public_holidays.specs.YearHolidays.{in_order}
-use Rattle.calendar_public_holidays.proofs.InOrder.{order-listed, order-rising, one_list}
-use Rattle.calendar_year_list.specs.declared.Entry.{Entry}
-use Rattle.calendar_year_list.specs.Inside.{NotFalling, wanted}
+use denote.Ref.{Bor}
+use Rattle.std.specs.Prelude.{Option, None, Some, option_copied, slice_get}
+use Rattle.std.specs.Option.{option_eq}
+use Rattle.std.proofs.lemmas.List.{append_assoc}
+use lib.Dec.{ltb, eqb}
+use borrow.Author.Tests.{eqb-true, eqb-false, ltb-true, ltb-false}
+use Rattle.calendar_public_holidays.specs.YearHolidays.{inserted, in_order}
+use Rattle.calendar_year_list.specs.Inside.{wanted, NotFalling}
 
 -- whether a date is the last one of a list
 abbrev pub is_last : ℕ → List ℕ → Bool
-is_last date [] = false
-is_last date (x ∷ []) = eqb x date
-is_last date (x ∷ y ∷ dates) = is_last date (y ∷ dates)
+is_last date dates = option_eq eqb (slice_get dates (length dates - 1)) (Some date)
 
--- the dates with those of some more days behind them
-abbrev pub appended : List ℕ → List Entry → List ℕ
+-- the dates with some more behind them
+abbrev pub appended : List ℕ → List ℕ → List ℕ
 appended dates [] = dates
-appended dates (e ∷ entries) = appended (cond (e.wanted && not (is_last e.date dates)) (dates ++ e.date ∷ []) dates) entries
+appended dates (date ∷ more) = appended (cond (is_last date dates) dates (dates ++ date ∷ [])) more
 
--- a date that no one is later than, and that is not the last, stays in order behind the others
-rising-behind : (date : ℕ) (dates : List ℕ) → Rising dates → Each (λ x. x ≤ date) dates → is_last date dates ≡ false → Rising (dates ++ date ∷ [])
-rising-behind date [] r b h = (tt, tt)
-rising-behind date (x ∷ []) r b h = (omega (arith, b.0, eqb-false x date h), (tt, tt))
-rising-behind date (x ∷ y ∷ dates) r b h = (r.0, rising-behind date (y ∷ dates) r.1 b.1 h)
+last-behind : (d date : ℕ) (dates : List ℕ) → is_last d (dates ++ date ∷ []) ≡ eqb date d
+last-behind d date [] = refl
+last-behind d date (x ∷ dates) =
+    let e : length ((x ∷ dates) ++ date ∷ []) - 1 ≡ suc (length (dates ++ date ∷ []) - 1) = omega (arith, length-append dates (date ∷ [])) in
+    rw e (last-behind d date dates)
 
--- the last date is one of the list
-last-listed : (date : ℕ) (dates : List ℕ) → is_last date dates ≡ true → listed date dates ≡ true
-unfolding listed
-last-listed date [] h = h
-last-listed date (x ∷ []) h = rw h refl
-last-listed date (x ∷ y ∷ dates) h = rw (last-listed date (y ∷ dates) h) (or-true (eqb x date))
-
--- which dates a list has with one more
-listed-behind : (d date : ℕ) (dates : List ℕ) → listed d (dates ++ date ∷ []) ≡ (listed d dates || eqb date d)
-unfolding listed
-listed-behind d date [] = or-false (eqb date d)
-listed-behind d date (x ∷ dates) =
-    ap (λ (rest : Bool). eqb x d || rest) (listed-behind d date dates) ∙ sym (or_assoc (eqb x d) (listed d dates) (eqb date d))
-
-appended-listed : (d : ℕ) (dates : List ℕ) (entries : List Entry) → listed d (appended dates entries) ≡ (listed d dates || listed d (wanted entries))
-unfolding listed
-appended-listed d dates [] = sym (or-false (listed d dates))
-appended-listed d dates (e ∷ entries) = go e.wanted (is_last e.date dates) refl (λ more. appended-listed d more entries)
+-- a date put in front of dates that begin with one that is not earlier
+in-front : (date next : ℕ) (dates : List ℕ) → date ≤ next →
+    inserted date (next ∷ dates) ≡ cond (eqb date next) (next ∷ dates) (date ∷ next ∷ dates)
+unfolding inserted
+in-front date next dates h = go (ltb date next) (eqb date next) refl refl
   where
-    there : (rest b : Bool) → eqb e.date d ≡ b → listed e.date dates ≡ true → (listed d dates || rest) ≡ (listed d dates || (b || rest))
-    there rest true same l =
-        let here : listed d dates ≡ true = rw (eqb-true e.date d same) at l in rw here
-    there rest false other l = refl
+    go : (a b : Bool) → ltb date next ≡ a → eqb date next ≡ b →
+        cond a (date ∷ next ∷ dates) (cond b (next ∷ dates) (next ∷ inserted date dates)) ≡ cond b (next ∷ dates) (date ∷ next ∷ dates)
+    go true true l e = absurd (omega (arith, ltb-true date next l, eqb-true date next e))
+    go true false l e = refl
+    go false true l e = refl
+    go false false l e = absurd (omega (arith, h, ltb-false date next l, eqb-false date next e))
 
-    go : (w b : Bool) → is_last e.date dates ≡ b → ((more : List ℕ) → listed d (appended more entries) ≡ (listed d more || listed d (wanted entries))) →
-        listed d (appended (cond (w && not b) (dates ++ e.date ∷ []) dates) entries) ≡ (listed d dates || listed d (cond w (e.date ∷ wanted entries) (wanted entries)))
-    go false b l rest = rest dates
-    go true true l rest = rest dates ∙ there _ (eqb e.date d) refl (last-listed e.date dates l)
-    go true false l rest =
-        rest (dates ++ e.date ∷ [])
-        ∙ rw (listed-behind d e.date dates) (or_assoc (listed d dates) (eqb e.date d) (listed d (wanted entries)))
-
--- no date of a list is later than a day
-abbrev UpTo : List ℕ → Entry → Type 0
-UpTo dates e = Each (λ x. x ≤ e.date) dates
-
-with-one-more : (date : ℕ) (dates : List ℕ) (e : Entry) → date ≤ e.date → UpTo dates e → UpTo (dates ++ date ∷ []) e
-with-one-more date [] e h u = (h, tt)
-with-one-more date (x ∷ dates) e h u = (u.0, with-one-more date dates e h u.1)
-
-all-more : (date : ℕ) (dates : List ℕ) (entries : List Entry) → Each (λ later. date ≤ later.date) entries → Each (UpTo dates) entries → Each (UpTo (dates ++ date ∷ [])) entries
-all-more date dates [] a u = tt
-all-more date dates (e ∷ entries) a u = (with-one-more date dates e a.0 u.0, all-more date dates entries a.1 u.1)
-
-appended-rising : (dates : List ℕ) (entries : List Entry) → Rising dates → Each (UpTo dates) entries → NotFalling entries → Rising (appended dates entries)
-appended-rising dates [] r u n = r
-appended-rising dates (e ∷ entries) r u n = go e.wanted (is_last e.date dates) refl (λ more s v. appended-rising more entries s v n.1)
+-- put in order, the dates begin with the first of them
+begins : (date : ℕ) (dates : List ℕ) → NotFalling (date ∷ dates) → (rest : List ℕ) × (in_order (date ∷ dates) ≡ date ∷ rest)
+unfolding in_order inserted
+begins date [] n = ([], refl)
+begins date (next ∷ dates) n =
+    let later = begins next dates n.1 in
+    rw (later.1, in-front date next later.0 n.0.0) (go (eqb date next) later.0 refl)
   where
-    go : (w b : Bool) → is_last e.date dates ≡ b → ((more : List ℕ) → Rising more → Each (UpTo more) entries → Rising (appended more entries)) →
-        Rising (appended (cond (w && not b) (dates ++ e.date ∷ []) dates) entries)
-    go false b l rest = rest dates r u.1
-    go true true l rest = rest dates r u.1
-    go true false l rest = rest (dates ++ e.date ∷ []) (rising-behind e.date dates r u.0 l) (all-more e.date dates entries n.0 u.1)
+    go : (b : Bool) (others : List ℕ) → eqb date next ≡ b →
+        (rest : List ℕ) × (cond b (next ∷ others) (date ∷ next ∷ others) ≡ date ∷ rest)
+    go true others e = (others, ap (λ d. d ∷ others) (sym (eqb-true date next e)))
+    go false others e = (next ∷ others, refl)
 
-none-later : (entries : List Entry) → Each (UpTo []) entries
-none-later [] = tt
-none-later (e ∷ entries) = (tt, none-later entries)
+one-more : (date next : ℕ) (dates : List ℕ) → NotFalling (date ∷ next ∷ dates) →
+    in_order (date ∷ next ∷ dates) ≡ cond (eqb date next) (in_order (next ∷ dates)) (date ∷ in_order (next ∷ dates))
+unfolding in_order
+one-more date next dates n = let later = begins next dates n.1 in rw later.1 (in-front date next later.0 n.0.0)
 
--- so the days come to their dates in order
-pub appended-in-order : (entries : List Entry) → NotFalling entries → appended [] entries ≡ in_order (wanted entries)
-unfolding listed
-appended-in-order entries n =
-    one_list (appended [] entries) (in_order (wanted entries)) (appended-rising [] entries tt (none-later entries) n) (order-rising (wanted entries))
-    (λ d. appended-listed d [] entries ∙ sym (order-listed d (wanted entries)))
+-- so they come to the dates in order, behind some others
+behind : (dates : List ℕ) (date : ℕ) (more : List ℕ) → NotFalling (date ∷ more) → appended (dates ++ date ∷ []) more ≡ dates ++ in_order (date ∷ more)
+unfolding in_order inserted
+behind dates date [] n = refl
+behind dates date (next ∷ more) n =
+    rw (last-behind next date dates, one-more date next more n)
+    (go (eqb date next) refl (behind dates date more (n.0.1, n.1.1)) (behind (dates ++ date ∷ []) next more n.1))
+  where
+    go : (b : Bool) → eqb date next ≡ b → appended (dates ++ date ∷ []) more ≡ dates ++ in_order (date ∷ more) →
+        appended ((dates ++ date ∷ []) ++ next ∷ []) more ≡ (dates ++ date ∷ []) ++ in_order (next ∷ more) →
+        appended (cond b (dates ++ date ∷ []) ((dates ++ date ∷ []) ++ next ∷ [])) more
+        ≡ dates ++ cond b (in_order (next ∷ more)) (date ∷ in_order (next ∷ more))
+    go true e same other = rw (← eqb-true date next e) same
+    go false e same other = other ∙ append_assoc dates (date ∷ []) (in_order (next ∷ more))
 
--- One day gone through, by what is asked of it.
-module _ (entries : List Entry) (i : ℕ) (default : Entry) (dates : List ℕ) (h : i < length entries) where
-  abbrev day : Entry
-  day = get_or entries i default
+pub appended_in_order : (dates : List ℕ) → NotFalling dates → appended [] dates ≡ in_order dates
+unfolding in_order
+appended_in_order [] n = refl
+appended_in_order (date ∷ dates) n = behind [] date dates n
 
-  turn : appended (cond (day.wanted && not (is_last day.date dates)) (dates ++ day.date ∷ []) dates) (drop (i + 1) entries) ≡ appended dates (drop i entries)
-  turn = rw (add-one, drop-cons entries i default h) refl
+-- One day gone through.
+module _ (days : List (Option ℕ)) (i : ℕ) (default : Option ℕ) (h : i < length days) where
+  turn : wanted (drop i days) ≡ wanted (get_or days i default ∷ drop (i + 1) days)
+  turn = rw (add-one, drop-cons days i default h) refl
 
-  pub not-wanted : day.wanted ≡ false → appended dates (drop (i + 1) entries) ≡ appended dates (drop i entries)
-  not-wanted w = rw w at turn
+  pub not_wanted : get_or days i default ≡ None → wanted (drop i days) ≡ wanted (drop (i + 1) days)
+  not_wanted e = turn ∙ rw e refl
 
-  pub there-already : day.wanted ≡ true → is_last day.date dates ≡ true → appended dates (drop (i + 1) entries) ≡ appended dates (drop i entries)
-  there-already w l = rw (w, l) at turn
+  pub one_wanted : (date : ℕ) → get_or days i default ≡ Some date → wanted (drop i days) ≡ date ∷ wanted (drop (i + 1) days)
+  one_wanted date e = turn ∙ rw e refl
 
-  pub put-behind : day.wanted ≡ true → is_last day.date dates ≡ false → appended (dates ++ day.date ∷ []) (drop (i + 1) entries) ≡ appended dates (drop i entries)
-  put-behind w l = rw (w, l) at turn
+pub none_left : (days : List (Option ℕ)) (i : ℕ) → length days ≤ i → wanted (drop i days) ≡ []
+none_left days i h = rw (drop_of_length-le days {i = i} h) refl
+
+-- what the test of the last date tells
+pub tested : (date : Bor ℕ) (last : Option (Bor ℕ)) → option_eq (λ x y. eqb x.now y.now) last (Some date) ≡ option_eq eqb (option_copied last) (Some date.now)
+tested date None = refl
+tested date (Some x) = refl

@@ -3,11 +3,12 @@ use mathlib.Core.Path.{◌≡◌}
 use mathlib.Core.List.{[]}
 use Prim.Native.Nat.{◌≤◌}
 use lib.ListN.{length, drop}
+use Rattle.calendar_year_list.specs.Inside.{wanted}
 use Rattle.calendar_year_list.proofs.Gathering.{appended}
 use Rattle.calendar_year_list.proofs.wanted_dates.Given as goal
 
 abbrev pub invariant-loop-day : goal.invariant-loop-day
 invariant-loop-day l = record {
-  whole : appended l.dates.items (drop l.day-index l.days) ≡ appended [] l.days;
+  whole : appended l.dates.items (wanted (drop l.day-index l.days)) ≡ appended [] (wanted l.days);
   room : length l.dates.items ≤ l.day-index;
 }
