@@ -12,7 +12,7 @@ use Rattle.program_response.specs.declared.ResponseReport.{ResponseReport}
 abbrev pub response_check : List ℕ → ℕ → Verdict
 response_check input room = room_question (length (printed input)) room
 
--- what the program answers: how many bytes were put at the start of the page, or the first question that did not pass
+-- what the call answers: how many bytes were put at the start of the page, or the refusal by question 12
 abbrev pub Response : Type 0
 Response = Result ℕ Refusal
 

@@ -10,7 +10,7 @@ use Rattle.calendar_holidays.specs.Holidays.{listed}
 use Rattle.calendar_days.specs.declared.DayKind.{DayKind}
 use Rattle.calendar_days.specs.Days.{season, day_type_when}
 use Rattle.calendar_period.specs.Period.{dates_from}
-use Rattle.series.specs.Kinds.{with_kinds, Rising}
+use Rattle.series.specs.Kinds.{with_kinds, NotFalling}
 
 -- the dates from one on are none of them earlier than what it is not earlier than
 after : (k n : ℕ) (d : Date) → AllDates n d → k ≤ number_of d → Each (λ (later : Date). k ≤ number_of later) (dates_from n d)
@@ -20,13 +20,13 @@ after k (suc n) d all h =
     let next = (next-day-counts d (all_first (suc n) d all (omega arith))).later in
     (h, after k n (next_day d) (rw one at (all-next (suc n) d all)) (omega (arith, next)))
 
-pub rising : (n : ℕ) (d : Date) → AllDates n d → Rising (dates_from n d)
-rising zero d all = tt
-rising (suc n) d all =
+pub not_falling : (n : ℕ) (d : Date) → AllDates n d → NotFalling (dates_from n d)
+not_falling zero d all = tt
+not_falling (suc n) d all =
     let one : suc n - 1 ≡ n = omega arith in
     let rest = rw one at (all-next (suc n) d all) in
     let next = (next-day-counts d (all_first (suc n) d all (omega arith))).later in
-    (after (number_of d) n (next_day d) rest (omega (arith, next)), rising n (next_day d) rest)
+    (after (number_of d) n (next_day d) rest (omega (arith, next)), not_falling n (next_day d) rest)
 
 -- a list that says of the later dates what another says gives them the same kinds
 same_kinds : (holidays ahead : List ℕ) (from : ℕ) (dates : List Date) → ((later : ℕ) → from ≤ later → listed later ahead ≡ listed later holidays) →
@@ -37,7 +37,7 @@ same_kinds holidays ahead from (d ∷ dates) same h =
 
 -- the first of some dates with its kind, and the others
 pub first_day : (holidays ahead : List ℕ) {dates rest : List Date} {d : Date} {kind : DayKind} {holiday : Bool} {number : ℕ} →
-    Rising dates → dates ≡ d ∷ rest → number ≡ number_of d → holiday ≡ listed number holidays →
+    NotFalling dates → dates ≡ d ∷ rest → number ≡ number_of d → holiday ≡ listed number holidays →
     ((later : ℕ) → number ≤ later → listed later ahead ≡ listed later holidays) →
     kind ≡ record { season = season d; day_type = day_type_when d holiday } →
     with_kinds holidays dates ≡ (d, kind) ∷ with_kinds ahead rest

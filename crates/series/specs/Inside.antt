@@ -1,4 +1,4 @@
--- What the functions of this crate require, which expanding and listing show. No definition of document 01.
+-- What the functions of this crate require, which expanding, the lines of days and the deliveries show. No definition of document 01.
 use Rattle.std.specs.Prelude.{◌≡◌, List, ◌++◌, ℕ, ◌≤◌, length, drop, get_or}
 use Rattle.lists.specs.Lists.{sum}
 use Rattle.carry.specs.declared.Totals.{Totals}

@@ -11,6 +11,6 @@ abbrev pub with_kinds : List ℕ → List Date → List (Date × DayKind)
 with_kinds holidays dates = map (λ d. (d, day_kind d holidays)) dates
 
 -- no date is earlier than one before it
-abbrev pub Rising : List Date → Type 0
-Rising [] = Unit {0}
-Rising (d ∷ dates) = Each (λ later. number_of d ≤ number_of later) dates × Rising dates
+abbrev pub NotFalling : List Date → Type 0
+NotFalling [] = Unit {0}
+NotFalling (d ∷ dates) = Each (λ later. number_of d ≤ number_of later) dates × NotFalling dates
