@@ -35,6 +35,7 @@ pub fn entries_from(holidays: &[u32], date: u32) -> &[u32]
 }
 
 // Question 9, of one entry.
+// Kept: an entry is given by its index, since a refusal names it by that.
 #[tactic(auto, unfolding(crate::specs::Holidays::holiday_question))]
 fn holiday_question(holidays: &[u32], index: usize) -> Result<(), Refusal>
     requires { index < length holidays.now }

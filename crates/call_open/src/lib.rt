@@ -20,6 +20,7 @@ pub struct Opening {
 }
 
 // Questions 1 to 8: the file, the group and the period.
+// Kept: file and group come one by one from two sorts of requests, which C gives one by one.
 pub fn open_period(file: &[u8], group: u8, first: u32, last: u32) -> Result<Opening, Refusal>
     ensures value { result ≡ answered
         (ahead_of_period file.now group then period_check first last)

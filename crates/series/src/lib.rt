@@ -19,6 +19,7 @@ use carry::Totals;
 pub use kinds::KindDays;
 
 // Stores one day's figures at the start of the output. A function of its own keeps its loops fast.
+// Kept: yearly use and carry, and their bounds, one by one, here and below, as of `carry_quotients::carry_by_quotients`.
 #[inline(never)]
 fn expand_day(
     basis: &Basis,
