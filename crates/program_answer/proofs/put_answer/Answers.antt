@@ -1,6 +1,6 @@
 -- `program_answer::put_answer` meets its contract: the days of an accepted request are listed from its group's values.
-use Rattle.std.proofs.Common.{[]}
-use Rattle.call_request.specs.Request.{asked}
+use Rattle.std.proofs.Common.{[], arith}
+use Rattle.call_request.specs.Request.{asked, request}
 use Rattle.call_open.proofs.Given.{opened-for, table_is, group-values}
 use Rattle.program_answer.specs.Answer.{lines_for}
 use Rattle.program_answer.proofs.Accepted.{accepted}
@@ -8,13 +8,12 @@ use Rattle.program_answer.proofs.put_answer.Goals as goal
 
 pub new-basis-requires-clause-group_values : goal.new-basis-requires-clause-group_values
 new-basis-requires-clause-group_values c =
-    let q = asked c.args.request [] in
-    group-values q (opened-for q c.in-Ok.ensures.value) c.table_at-values.ensures
+    group-values _ (opened-for (request _ _ _ _ _ _ _ []) c.in-Ok.ensures.value) c.table_at-values.ensures
 
 pub list_days-totals-requires-clause-in_range : goal.list_days-totals-requires-clause-in_range
 list_days-totals-requires-clause-in_range c =
-    let s = (opened-for (asked c.args.request []) c.in-Ok.ensures.value).sound in
-    record { yearly_small = s.yearly; carry_small = s.carry }
+    let s = (opened-for (request _ _ _ _ _ _ _ []) c.in-Ok.ensures.value).sound in
+    record { yearly_small = omega (arith, s.yearly); carry_small = omega (arith, s.carry) }
 
 pub returns : goal.returns
 unfolding lines_for
