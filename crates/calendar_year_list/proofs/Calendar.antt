@@ -38,7 +38,8 @@ picked [] dates = []
 picked (flag ∷ flags) [] = []
 picked (flag ∷ flags) (date ∷ dates) = cond flag (Some date) None ∷ picked flags dates
 
-picked-later : (first : ℕ) (flags : List Bool) (dates : List ℕ) → Each (λ later. first ≤ later) dates → Each (λ later. first ≤ later) (wanted (picked flags dates))
+picked-later : (first : ℕ) (flags : List Bool) (dates : List ℕ) → Each (λ later. first ≤ later) dates →
+    Each (λ later. first ≤ later) (wanted (picked flags dates))
 picked-later first [] dates a = tt
 picked-later first (flag ∷ flags) [] a = tt
 picked-later first (true ∷ flags) (date ∷ dates) a = (a.0, picked-later first flags dates a.1)
@@ -61,4 +62,5 @@ all_days year = wanted (calendar_days year 63)
 
 pub calendar_order : (year choice : ℕ) → InSpan year → NotFalling (wanted (calendar_days year choice))
 unfolding leap_days month_length days_of_months day_of_year days_of_years day_number weekday_of next_day days_later golden_number century solar_correction lunar_correction cycle_epact epact paschal_full_moon march_day days_until easter_day calendar_days
-calendar_order year choice s = picked-not-falling (flags choice) (all_days year) (not-falling (all_days year) (in-year (λ y. rises (all_days y)) tt year s))
+calendar_order year choice s =
+    picked-not-falling (flags choice) (all_days year) (not-falling (all_days year) (in-year (λ y. rises (all_days y)) tt year s))

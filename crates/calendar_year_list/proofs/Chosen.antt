@@ -67,7 +67,7 @@ federal-first (d ∷ days) rest others h = ap (λ dates. number_of d ∷ dates) 
 chosen-days : (year choice : ℕ) → chosen_days year choice ≡ wanted (paper_days year choice)
 unfolding chosen_days
 chosen-days year choice =
-    federal-first (federal_days year) (chosen choice (regional_days year)) (flagged choice (regional_days year)) (chosen-flagged choice (regional_days year))
+    federal-first (federal_days year) _ (flagged choice (regional_days year)) (chosen-flagged choice (regional_days year))
 
 -- seventeen numbers in the two orders
 orders : (a b c d e f g h i j k l m n o p q : ℕ) →
@@ -88,7 +88,7 @@ count_same year choice d =
 pub wanted_list : (year choice : ℕ) → in_order (wanted (calendar_days year choice)) ≡ year_holidays year choice
 unfolding year_holidays
 wanted_list year choice =
-    one_list (in_order (wanted (calendar_days year choice))) (in_order (chosen_days year choice)) (order-rising (wanted (calendar_days year choice))) (order-rising (chosen_days year choice))
+    one_list _ _ (order-rising (wanted (calendar_days year choice))) (order-rising (chosen_days year choice))
     (λ d.
     order-listed d (wanted (calendar_days year choice))
     ∙ listed-counted d (calendar_days year choice)

@@ -28,7 +28,8 @@ appended dates (date ∷ more) = appended (cond (is_last date dates) dates (date
 last-behind : (d date : ℕ) (dates : List ℕ) → is_last d (dates ++ date ∷ []) ≡ eqb date d
 last-behind d date [] = refl
 last-behind d date (x ∷ dates) =
-    let e : length ((x ∷ dates) ++ date ∷ []) - 1 ≡ suc (length (dates ++ date ∷ []) - 1) = omega (arith, length-append dates (date ∷ [])) in
+    let e : length (x ∷ (dates ++ date ∷ [])) - 1 ≡ suc (length (dates ++ date ∷ []) - 1) =
+    omega (arith, length-append dates (date ∷ [])) in
     rw e (last-behind d date dates)
 
 -- a date put in front of dates that begin with one that is not earlier
@@ -63,7 +64,8 @@ unfolding in_order
 one-more date next dates n = let later = begins next dates n.1 in rw later.1 (in-front date next later.0 n.0.0)
 
 -- so they come to the dates in order, behind some others
-behind : (dates : List ℕ) (date : ℕ) (more : List ℕ) → NotFalling (date ∷ more) → appended (dates ++ date ∷ []) more ≡ dates ++ in_order (date ∷ more)
+behind : (dates : List ℕ) (date : ℕ) (more : List ℕ) → NotFalling (date ∷ more) →
+    appended (dates ++ date ∷ []) more ≡ dates ++ in_order (date ∷ more)
 unfolding in_order inserted
 behind dates date [] n = refl
 behind dates date (next ∷ more) n =
@@ -97,6 +99,7 @@ pub none_left : (days : List (Option ℕ)) (i : ℕ) → length days ≤ i → w
 none_left days i h = rw (drop_of_length-le days {i = i} h) refl
 
 -- what the test of the last date tells
-pub tested : (date : Bor ℕ) (last : Option (Bor ℕ)) → option_eq (λ x y. eqb x.now y.now) last (Some date) ≡ option_eq eqb (option_copied last) (Some date.now)
+pub tested : (date : Bor ℕ) (last : Option (Bor ℕ)) →
+    option_eq (λ x y. eqb x.now y.now) last (Some date) ≡ option_eq eqb (option_copied last) (Some date.now)
 tested date None = refl
 tested date (Some x) = refl

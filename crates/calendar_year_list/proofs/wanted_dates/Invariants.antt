@@ -1,4 +1,4 @@
--- What each turn of the loop keeps: with the days left behind them, the dates so far come to the whole; and there is room for each day left.
+-- What each turn of the loop keeps: with the days left behind them, the dates so far come to the whole, and there is room for them.
 use mathlib.Core.Path.{◌≡◌}
 use mathlib.Core.List.{[]}
 use Prim.Native.Nat.{◌≤◌}
