@@ -1,6 +1,6 @@
 -- Laws of the calendar's definitions, which the functions' proofs and other crates cite.
 -- Assumes nothing.
-use mathlib.Core.Path.{◌≡◌, refl, sym, ◌∙◌, ap}
+use mathlib.Core.Path.{◌≡◌, refl, sym, ◌∙◌}
 use mathlib.Core.Bool.{Bool, true, false, cond, ◌&&◌}
 use mathlib.Core.List.{List, [], ◌∷◌}
 use Prim.Native.Nat.{ℕ, zero, suc, ◌+◌, ◌-◌, ◌*◌, ◌/◌, ◌%◌, ◌≤◌, ◌<◌}
@@ -12,7 +12,7 @@ use lib.ListN.{length, get_or}
 use borrow.Author.Tests.{leb-true, eqb-true, le-leb, eqb-false}
 use Rattle.refusal.proofs.Questions.{both}
 use Rattle.calendar_dates.specs.declared.Date.{Date}
-use Rattle.calendar_dates.specs.Dates.{date_of, month_lengths, leap_days, month_length, is_date, days_of_months, day_of_year, days_of_years, day_number}
+use Rattle.calendar_dates.specs.Dates.{month_lengths, leap_days, month_length, is_date, days_of_months, day_of_year, days_of_years, day_number}
 
 -- an entry of a table whose entries are all at most a limit, or the 0 past its end
 all_small : ℕ → List ℕ → Bool
@@ -173,10 +173,6 @@ years-closed (suc n) = go (eqb ((1996 + n) % 4) 0) refl (years-closed n)
     go : (b : Bool) → eqb ((1996 + n) % 4) 0 ≡ b → days_of_years n ≡ n * 365 + (n + 3) / 4 → days_of_years n + (365 + cond b 1 0) ≡ suc n * 365 + (suc n + 3) / 4
     go true e h = omega (arith, eqb-true ((1996 + n) % 4) 0 e)
     go false e h = omega (arith, eqb-false ((1996 + n) % 4) 0 e)
-
--- what `is_date(date_of(n))` answers
-pub checked : (n : ℕ) {d : Date} {r b : Bool} → d ≡ date_of n → r ≡ is_date d → r ≡ b → is_date (date_of n) ≡ b
-checked n e h t = sym (ap is_date e) ∙ sym h ∙ t
 
 -- a day number is small
 pub number_small : (d : Date) → is_date d ≡ true → day_number d < 40_000

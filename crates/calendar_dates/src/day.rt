@@ -28,6 +28,7 @@ impl Model for CalendarDay {
 }
 
 // t, counted from 1 January.
+// Kept: a `for`, since a chain's closure is asked for a month from 1 to 12, which a proof did not know of a range's items.
 fn day_of_year(date: Date) -> u32
     requires { is_date date ≡ true }
     ensures { result ≡ day_of_year date }
@@ -70,7 +71,7 @@ impl CalendarDay {
     }
 
     // 1 Monday to 7 Sunday.
-    // Kept: a number and no enum, since it is counted on modulo 7 and the day enquiry reports it as it is.
+    // Kept: a number and no enum: it is counted on modulo 7, and document 01 gives it as 1 Monday to 7 Sunday.
     pub fn weekday(self) -> u32
         ensures { result ≡ weekday_of self }
     {
@@ -103,6 +104,7 @@ impl CalendarDay {
 
     // The date, weekday and t of the day after, neither of the two counted anew. After the span's last day comes 1 January 2100, which
     // is no CalendarDay.
+    // Kept: three values, since the day after the span's last is no value of the type.
     pub fn day_after(self) -> (Date, u32, u32)
         ensures { result ≡ (next_day self, weekday_of (next_day self), day_of_year (next_day self)) }
     {

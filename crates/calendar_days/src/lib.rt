@@ -98,18 +98,20 @@ const SATURDAY: u32 = 6;
 const SUNDAY: u32 = 7;
 
 // Whether a date is on or after that day and month of its year.
-fn from(date: Date, day: u32, month: u32) -> bool
-    requires { (is_date date ≡ true) × (day ≤ 31) }
+fn from(date: CalendarDay, day: u32, month: u32) -> bool
+    requires { day ≤ 31 }
     ensures { result ≡ from date day month }
 {
+    let date = date.date();
     Date { month, day, ..date } <= date
 }
 
 // Whether a date is on or before that day and month of its year.
-fn to(date: Date, day: u32, month: u32) -> bool
-    requires { (is_date date ≡ true) × (day ≤ 31) }
+fn to(date: CalendarDay, day: u32, month: u32) -> bool
+    requires { day ≤ 31 }
     ensures { result ≡ to date day month }
 {
+    let date = date.date();
     date <= Date { month, day, ..date }
 }
 
@@ -118,13 +120,12 @@ fn to(date: Date, day: u32, month: u32) -> bool
 pub fn season_of(day: CalendarDay) -> Season
     ensures { result ≡ season day }
 {
-    let date = day.date();
     // "Winter: 1.11.-20.03.": over New Year, so either of its two parts
-    if from(date, 1, 11) || to(date, 20, 3) {
+    if from(day, 1, 11) || to(day, 20, 3) {
         return Season::Winter;
     }
     // "Sommer: 15.05.-14.09."
-    if from(date, 15, 5) && to(date, 14, 9) {
+    if from(day, 15, 5) && to(day, 14, 9) {
         return Season::Summer;
     }
     // "Übergang: 21.03.-14.05. bzw. 15.09.-31.10.": what is left, by the theorem SeasonsSettled

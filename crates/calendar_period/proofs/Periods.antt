@@ -30,12 +30,6 @@ unfolding value_count_of_days
 values-small zero d = omega arith
 values-small (suc n) d = omega (arith, clock-small (clock d), values-small n (next_day d))
 
-pub values-next : (n : ℕ) (d : Date) → 0 < n → value_count_of_days n d ≡ value_count d + value_count_of_days (n - 1) (next_day d)
-unfolding value_count_of_days
-values-next zero d h = absurd (omega arith)
-values-next (suc n) d h =
-    let one : suc n - 1 ≡ n = omega arith in rw one
-
 -- What questions 7 and 8 ask of a period, as facts.
 pub record Period (first last : ℕ) : Type 0 where
   pub dates-first : is_date (date_of first) ≡ true

@@ -9,7 +9,8 @@ use calendar_movable_days::Year;
 use refusal::Refusal;
 
 // The answer in numbers: number and place, 0 when accepted, and the list's length, 0 when refused.
-// Kept: a report of its own, though another has the same fields, since each call gives its length a meaning of its own.
+// Kept: C has a report by this name for this call and one for responses. One struct for both would stand in `refusal`, below the two, and
+// its length would be dates in one call and bytes in the other.
 #[repr(C)]
 #[derive(Clone, Copy, Default)]
 pub struct HolidaysReport {

@@ -12,7 +12,7 @@ use calendar_period::Period;
 use call_request::Request;
 use refusal::Refusal;
 
-// What the questions found: where the group's code stands in the file, and the period.
+// What the questions found: where the group's code stands in the file (as `file_group::find` gives it), and the period.
 #[derive(Clone, Copy)]
 pub struct Opening {
     pub at: usize,
@@ -20,7 +20,7 @@ pub struct Opening {
 }
 
 // Questions 1 to 8: the file, the group and the period.
-// Kept: file and group come one by one from two sorts of requests, which C gives one by one.
+// Kept: one by one what two sorts of requests have in common, the calls' and the deliveries': a third struct would be made of them here.
 pub fn open_period(file: &[u8], group: u8, first: u32, last: u32) -> Result<Opening, Refusal>
     ensures value { result ≡ answered
         (ahead_of_period file.now group then period_check first last)

@@ -35,7 +35,7 @@ fn carry_question(carry: u32) -> Result<(), Refusal>
 }
 
 // Questions 9 to 11.
-// Kept: yearly use and carry stand one by one, as of `carry_quotients::carry_by_quotients`.
+// Kept: three parts of a request one by one: who asks these questions needs no file, group and dates for it.
 pub fn behind_period(holidays: &[u32], yearly: u32, carry: u32) -> Result<(), Refusal>
     ensures { result ≡ behind_period holidays.now yearly carry }
 {

@@ -40,11 +40,6 @@ module _ {unit factor : ℕ} {powers : List ℕ} {first : ℕ} (g : Growing unit
     added : get_or powers at 0 * factor ≤ 40_000 * factor
     added = let same : factor ≤ factor = omega arith in mul-le-mul (g.small at) same
 
-    pub fits : at < length powers → s + get_or powers at 0 * factor < 2 ^ 64
-    fits h =
-        let all : suc at * (40_000 * factor) ≤ length powers * (40_000 * factor) = mul-le-mul {m₂ = 40_000 * factor} h (omega arith) in
-        omega (arith, added, all, l.small, g.sum_small)
-
     pub falls-not : total ≤ (s + get_or powers at 0 * factor) / unit
     falls-not = omega (arith, l.quotient, grows unit s (get_or powers at 0 * factor) positive)
 

@@ -7,6 +7,7 @@ ghost use Rattle.carry_quotients.specs.Growths.{growths, Growing};
 ghost use Rattle.carry_quotients.specs.Inside.{SmallPowers, RangeCarried};
 
 // What some quarter hours come to: the sum of their figures in Wh, and the carry that they leave.
+// Kept: no count beside them, as carry::Totals has, since a range has as many figures as powers, and the day's count is its clock's.
 #[derive(Clone, Copy, Debug, Default, PartialEq, Eq)]
 pub struct Carried {
     pub total: u64,
@@ -40,8 +41,8 @@ pub fn store_growths<const UNIT: u64>(
 
 // Stores the figures of a range of a day's positions. A figure is the growth of the quotient of the sum so far: that is the
 // document's carry step.
-// Kept: yearly use and carry stand one by one, since the one is a whole call's and the other is handed on from range to range; so do
-// the bounds, which are about powers, yearly use, carry and output together and of no type of one of them.
+// Kept: yearly use and carry stand one by one, since the one is a whole call's and the other is handed on from range to range. Of the
+// bounds most join two of the arguments; a type for powers up to 40,000, at most 96, would be made here of slices that two callers cut.
 pub fn carry_by_quotients(powers: &[u32], yearly: u32, carry: u32, out: &mut [u32]) -> Carried
     requires small_powers { SmallPowers powers.now yearly carry }
     requires in_day { length powers.now ≤ 96 }

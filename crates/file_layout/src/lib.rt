@@ -108,6 +108,7 @@ pub fn header_questions(file: &[u8]) -> Result<(), Refusal>
 }
 
 // The value bytes of the profile whose code stands at `at`.
+// Kept: the place beside the file, as `file_group::find` gives it.
 pub fn value_bytes(file: &[u8], at: usize) -> &[u8]
     requires { at + profile_length (layout_of file.now) ≤ length file.now }
     ensures { ValueBytesOf file.entry at result }

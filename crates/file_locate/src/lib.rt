@@ -13,7 +13,7 @@ pub struct LocatedPart {
 }
 
 // The group's own value bytes, as that part of the lent file; on a refusal the part of length zero at its start.
-// Kept: file and group apart, as they come one by one over the C interface.
+// Kept: file and group apart, here and below, as they come one by one over the C interface; a part of length zero, as document 01 asks.
 pub fn locate(file: &[u8], group: u8) -> &[u8]
     ensures { Located file.entry group result }
 {

@@ -16,13 +16,14 @@ fn fill(part: &[u8], table: &mut [u16])
     requires { length part.now ≡ length table.old * 2 }
     ensures { table.new ≡ words_of part.now }
 {
-    // Kept: each value by its number, since of what is written through a zip with chunks_exact a proof knows the length alone.
+    // Kept: each value by its number, since of what is written through a zip with iter_mut a proof knows the length alone.
     for (i, entry) in table.iter_mut().enumerate() {
         *entry = big_endian::word_at(part, i * 2);
     }
 }
 
 // The values of the profile whose code stands at `at`, by value.
+// Kept: the place beside the file, as `file_group::find` gives it.
 #[tactic(auto, using(file_layout::proofs::Header::value_bytes_long), unfolding(file_layout::specs::Header::layout_of))]
 pub fn table_at(file: &[u8], at: usize) -> [u16; 864]
     requires { at + profile_length (layout_of file.now) ≤ length file.now }

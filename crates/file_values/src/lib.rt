@@ -56,7 +56,8 @@ fn profile_values_question(layout: Layout, file: &[u8], at: usize) -> Result<(),
     Ok(())
 }
 
-// Question 5. The layout stands beside the file, since it is asked under any layout that the file's length fits.
+// Question 5.
+// Kept: the layout beside the file, since the question is asked under any layout that the file's length fits, and not the header's alone.
 pub fn values_question(layout: Layout, file: &[u8]) -> Result<(), Refusal>
     requires { LaidOut layout file.now }
     ensures { result ≡ values_question layout file.now }

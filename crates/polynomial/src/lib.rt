@@ -7,6 +7,7 @@ ghost use Rattle.polynomial.specs.Polynomial.{X, Limited};
 ghost use Rattle.polynomial.specs.Inside.{Day};
 
 // The five coefficients, for t^4 down to t^0, in units of 10^-12.
+// Kept: no type parameter for the number: document 01 asks for a struct of five f64 beside the i64 polynomial ("Forms by place").
 #[derive(Clone, Copy, Debug, PartialEq, Eq)]
 pub struct Coefficients {
     pub t4: i64,

@@ -36,8 +36,8 @@ fn day_in_range(p: AllowedPolynomial, t: u32) -> bool
     in_range(horner(p.polynomial, t))
 }
 
-// Whether X is in range on each of the 366 days. The answer of a day does not end the loop, so that the compiler can take several
-// days at once.
+// Whether X is in range on each of the 366 days.
+// Kept: a loop and no `all`: the answer of a day does not end the loop, so that the compiler can take several days at once.
 fn every_day_in_range(p: AllowedPolynomial) -> bool
     ensures { result ≡ usable (coefficients_of p.polynomial) }
 {

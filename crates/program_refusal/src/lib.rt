@@ -8,6 +8,7 @@ use refusal::Refusal;
 use text::Page;
 
 // Puts the line of a refusal, of at most 50 bytes: 7 for the word, two fields of 21, 1 LF.
+// Kept: number and place by `text`, and not by Refusal's Display, since a `write!` to a page is not known to succeed.
 pub fn put_refused_line(refusal: Refusal, page: &mut Page)
     requires { Room 50 page.old }
     ensures { Put (refused_line refusal) page.old page.new }

@@ -11,7 +11,7 @@ use text::Page;
 pub const PAGE_LENGTH: usize = 65_536;
 
 // The answer in numbers: number and place, 0 when the text was written, and its length, 0 when refused.
-// Kept: a report of its own, though another has the same fields, since each call gives its length a meaning of its own.
+// Kept: C has a report by this name for this call and one for the holidays, as `call_holidays::HolidaysReport` says.
 #[repr(C)]
 #[derive(Clone, Copy, Default)]
 pub struct ResponseReport {

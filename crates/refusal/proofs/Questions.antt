@@ -21,15 +21,6 @@ ask-yes r h = rw h
 pub ask-no : {b : Bool} (r : Refusal) → b ≡ false → ask b r ≡ Err r
 ask-no r h = rw h
 
--- a test that cannot hold does not
-pub fails : (b : Bool) → (b ≡ true → ⊥) → b ≡ false
-fails true never = absurd (never refl)
-fails false never = refl
-
--- a question that cannot pass is answered by its refusal
-pub refuses : (b : Bool) (r : Refusal) → (ask b r ≡ Pass → ⊥) → Err r ≡ ask b r
-refuses b r never = sym (ask-no r (fails b (λ h. never (ask-yes r h))))
-
 -- One question after the other.
 pub then-pass : {v : Verdict} (next : Verdict) → v ≡ Pass → (v then next) ≡ next
 then-pass next h = rw h

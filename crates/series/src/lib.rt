@@ -19,7 +19,8 @@ use carry::Totals;
 pub use kinds::KindDays;
 
 // Stores one day's figures at the start of the output. A function of its own keeps its loops fast.
-// Kept: yearly use and carry, and their bounds, one by one, here and below, as of `carry_quotients::carry_by_quotients`.
+// Kept: yearly use and carry, and their bounds, one by one, here and below, as of `carry_quotients::carry_by_quotients`; the use beside the
+// basis, which says what the quarter hours are, whatever is used in them; a day and its kind as the iterator gives them.
 #[inline(never)]
 fn expand_day(
     basis: &Basis,
@@ -44,6 +45,7 @@ fn expand_day(
 }
 
 // Stores the figures of a period from the start of the output on.
+// Kept: a loop here, in `series_totals` and in `text_listing`: a common one would take what a day does as a closure, with its promise.
 pub fn expand_days(
     basis: &Basis,
     period: Period,

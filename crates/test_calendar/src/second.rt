@@ -6,7 +6,8 @@ use call_day::DayReport;
 use std::fmt;
 
 // A day's figures, in the order of the enquiry's report: number and place are 0 when it is not refused.
-// Kept: season and day type are numbers here, since they are compared with the report's, which has numbers for C.
+// Kept: a struct of its own and numbers for season and day type, since what is printed of it is the test's own, and it is compared with a
+// report, which has numbers for C. Year, t and weekday stand one by one below, as the loops over all days count them.
 #[derive(Clone, Copy, PartialEq, Eq)]
 pub struct Figures {
     pub number: u32,

@@ -72,24 +72,22 @@ pub fn compare_powers(rt: &HostRuntime, file: &[u8; file::LENGTH]) -> io::Result
 pub fn compare_factors(rt: &HostRuntime) -> io::Result<()> {
     let mut agree: u32 = 0;
     for (row, printed) in ROWS.iter().zip(&FACTORS) {
-        agree += compare_factor(rt, row.t, *printed)?;
+        agree += u32::from(compare_factor(rt, row.t, *printed)?);
     }
     println!(rt; "Abb. 5, factors: {agree} of 18")
 }
 
-// 1 where the factor of a day agrees with the printed one. Else 0, after a line with the day and both; without a line where
-// none is printed.
-fn compare_factor(rt: &HostRuntime, t: u32, printed: u32) -> io::Result<u32>
+// Whether the factor of a day agrees with the printed one. Where it does not, a line has the day and both; none where none is printed.
+fn compare_factor(rt: &HostRuntime, t: u32, printed: u32) -> io::Result<bool>
     requires { (1 ≤ t) × (t ≤ 366) }
-    ensures { IfOk result (λ n. n ≤ 1) }
 {
     if printed == 0 {
-        return Ok(0);
+        return Ok(false);
     }
     let ours = dynamisation::factor(0, t);
     if ours == printed {
-        return Ok(1);
+        return Ok(true);
     }
     println!(rt; "{t} {ours} {printed}")?;
-    Ok(0)
+    Ok(false)
 }

@@ -71,7 +71,7 @@ fn compare_row(
             quarters: column.position + 1,
             value: *value,
         };
-        agree += compare_cell(rt, cell, ours, *printed)?;
+        agree += u32::from(compare_cell(rt, cell, ours, *printed)?);
     }
     Ok(agree)
 }
@@ -84,23 +84,21 @@ struct Cell {
     value: u16,
 }
 
-// 1 where a power agrees with the printed one. Else 0, after a line with the day, the time, P and both; without a line where none
-// is printed.
-fn compare_cell(rt: &HostRuntime, cell: Cell, ours: u64, printed: u16) -> io::Result<u32>
-    ensures { IfOk result (λ n. n ≤ 1) }
-{
+// Whether a power agrees with the printed one. Where it does not, a line has the day, the time, P and both; none where none is printed.
+// Kept: 0 where none is printed, as the tables have it, which are the paper's.
+fn compare_cell(rt: &HostRuntime, cell: Cell, ours: u64, printed: u16) -> io::Result<bool> {
     if printed == 0 {
-        return Ok(0);
+        return Ok(false);
     }
     if ours == u64::from(printed) {
-        return Ok(1);
+        return Ok(true);
     }
     let t = cell.t;
     let hours = cell.quarters / 4;
     let minutes = cell.quarters % 4 * 15;
     let value = cell.value;
     println!(rt; "{t} {hours:02}:{minutes:02} {value} {ours} {printed}")?;
-    Ok(0)
+    Ok(false)
 }
 
 impl Scale {

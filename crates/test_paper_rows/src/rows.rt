@@ -16,6 +16,7 @@ pub struct Row {
     pub date: u32,
     pub t: u32,
     pub start: usize,
+    // Kept: a flag and no list of holidays, which is the same in eighteen of twenty rows
     pub regional: bool,
     ghost in_year: { (1 ≤ t) × (t ≤ 366) },
     ghost inside: { start ≤ 480 },

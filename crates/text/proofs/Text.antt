@@ -82,9 +82,6 @@ places_more n k least below less =
 pub decimal-some : (n : ℕ) → 1 ≤ length (decimal n)
 decimal-some n = omega (arith, digits-count 19 n)
 
-pub date-length : (d : Date) → length (date_text d) ≡ 10
-date-length d = refl
-
 -- the last digits, as many as there are, are all
 one_more : (k n : ℕ) → front k (n / 10) ≡ last_digits (length (front k (n / 10))) (n / 10) →
     digits (suc k) n ≡ last_digits (length (digits (suc k) n)) n

@@ -97,6 +97,7 @@ pub fn digit_count(n: u64) -> usize
 }
 
 // Writes the last digits of a number, as many as there are places.
+// Kept: each place by its number, since after `iter_mut().rev()` a proof knows nothing of what was written.
 fn write_digits(n: u64, places: &mut [u8])
     ensures { places.new ≡ last_digits (length places.old) n }
 {

@@ -7,4 +7,6 @@ use Rattle.calendar_days.proofs.from.Goals as goal
 
 pub returns : goal.returns
 unfolding from
-returns c = c.le.ensures ∙ compared _ _ (refl {a = c.args.date.year}) c.requires.1 (parts c.args.date c.requires.0).day-small
+returns c =
+    let d = c.date-date.ensures in
+    rw d.same at c.le.ensures ∙ compared _ _ (refl {a = c.args.date.year}) c.requires (parts c.args.date d.real).day-small

@@ -7,4 +7,6 @@ use Rattle.calendar_days.proofs.to.Goals as goal
 
 pub returns : goal.returns
 unfolding to
-returns c = c.le.ensures ∙ compared _ _ (refl {a = c.args.date.year}) (parts c.args.date c.requires.0).day-small c.requires.1
+returns c =
+    let d = c.date-date.ensures in
+    rw d.same at c.le.ensures ∙ compared _ _ (refl {a = c.args.date.year}) (parts c.args.date d.real).day-small c.requires
