@@ -3,7 +3,7 @@
 use mathlib.Core.Path.{◌≡◌, sym, ◌∙◌}
 use mathlib.Core.Bool.{true}
 use mathlib.Core.List.{List}
-use Prim.Native.Nat.{ℕ, ◌≤◌, ◌<◌}
+use Prim.Native.Nat.{ℕ, ◌≤◌}
 use native.Mathlib.Omega.{arith}
 use lib.ListN.{length, get_or, length-map}
 use Rattle.calendar_dates.specs.declared.Date.{Date}
@@ -19,16 +19,10 @@ use Rattle.carry.specs.Energy.{powers}
 use Rattle.carry_quotients.specs.declared.Carried.{Carried}
 use Rattle.carry_day.specs.Inside.{DayCarried}
 use Rattle.day_powers.specs.DayTable.{day_table_of, day_table_at, day_values}
-use Rattle.day_powers.specs.Inside.{DayTableInside, powers_by}
+use Rattle.day_powers.specs.Inside.{powers_by}
 use Rattle.day_powers.specs.DayQuarters.{Basis, day_quarters}
 use Rattle.day_powers.proofs.DayQuarters.{powers-small, length-day-quarters, day-powers-positions}
 use Rattle.series.specs.Inside.{GroupValues, Filled}
-
--- one of the nine tables of a group's values
-pub own-table : {index : ℕ} {values : List ℕ} → GroupValues values → index < 9 → DayTableInside index values
-own-table sound h =
-    let whole = sound.whole in
-    record { inside = omega arith; small = sound.small }
 
 -- the t of a date
 in-year : (d : Date) → is_date d ≡ true → Day (day_of_year d)

@@ -1,8 +1,8 @@
 -- Laws of a period's quarter hours: a day more, two periods joined, a property of each of them, and how many they are.
 -- By induction over the days. Assumes nothing.
 use mathlib.Core.Path.{◌≡◌, refl, ◌∙◌}
-use mathlib.Core.List.{List, [], ◌++◌, append_assoc}
-use Prim.Native.Nat.{ℕ, zero, suc, ◌+◌, ◌-◌, ◌≤◌, ◌<◌}
+use mathlib.Core.List.{List, ◌++◌, append_assoc}
+use Prim.Native.Nat.{ℕ, zero, suc, ◌+◌, ◌<◌}
 use native.Mathlib.Nat.{zero-add, suc-add}
 use native.Mathlib.Omega.{arith}
 use lib.ListN.{length, length-append}
@@ -17,18 +17,6 @@ use Rattle.day_powers.proofs.DayQuarters.{length-day-quarters}
 use Rattle.series.specs.Series.{quarters_of_days}
 
 module _ (day : Date → List Quarter) where
-  pub quarters-none : (n : ℕ) (d : Date) → n ≤ 0 → quarters_of_days day n d ≡ []
-  unfolding quarters_of_days
-  quarters-none zero d h = refl
-  quarters-none (suc n) d h = absurd (omega arith)
-
-  pub quarters-next : (n : ℕ) (d : Date) → 0 < n → quarters_of_days day n d ≡ day d ++ quarters_of_days day (n - 1) (next_day d)
-  unfolding quarters_of_days
-  quarters-next zero d h = absurd (omega arith)
-  quarters-next (suc n) d h =
-      let one : suc n - 1 ≡ n = omega arith in
-      rw one
-
   -- a period after a period
   pub quarters-add : (n m : ℕ) (d : Date) → quarters_of_days day (n + m) d ≡ quarters_of_days day n d ++ quarters_of_days day m (days_later n d)
   unfolding quarters_of_days days_later
