@@ -1,4 +1,5 @@
 // Numbers in bytes, the highest byte first (document 01, "All numbers in it are big-endian"): read and put.
+// Kept: a place beside the bytes, since a file's and an input's numbers stand at places that are counted from its start.
 #![tactic(auto)]
 
 ghost use Rattle.std.specs.Prelude.{◌≡◌, [], ◌∷◌, ◌+◌, ◌≤◌, ◌<◌, length};
