@@ -15,6 +15,7 @@ pub enum Season {
     Transition,
 }
 
+// Kept: a `match` has each letter and digit beside its case, as document 01 lists them, here and below.
 impl Season {
     // Its letter in a line of text.
     pub fn letter(self) -> u8

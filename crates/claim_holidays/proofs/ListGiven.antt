@@ -60,12 +60,12 @@ module _ (given : List ℕ) (p : holidays_question given ≡ Pass) where
         passes = p;
         expanding = λ q same. both _ _ (request-questions q same) (output (length (series q)) (length q.output));
         deliveries = λ d same.
-          both _ _ (file-and-group d.file d.group)
-          (both _ _ (period d.first d.last)
-          (both _ _ (readings (length d.starts) (length d.metered))
-          (both _ _ (first-dates d.first d.last d.starts)
-          (both _ _ (of-list same)
-          (both _ _ (yearly-use d.yearly) (output (length d.starts) (length d.output)))))));
+            both _ _ (file-and-group d.file d.group)
+            (both _ _ (period d.first d.last)
+            (both _ _ (readings (length d.starts) (length d.metered))
+            (both _ _ (first-dates d.first d.last d.starts)
+            (both _ _ (of-list same)
+            (both _ _ (yearly-use d.yearly) (output (length d.starts) (length d.output)))))));
         page = λ q same. both _ _ (request-questions q same) (page-room (days_in q) (length q.output));
         program = λ input same. both _ _ (whole-input input) (request-questions (request_in input) same);
         enquiry = λ date. both _ _ (date-question date 0) question-9;
