@@ -3,7 +3,8 @@
 
 ghost use Rattle.std.specs.Prelude.{◌≡◌, true, [], ◌∷◌, decimal, ◌≤◌, Some};
 ghost use Rattle.calendar_dates.specs.Dates.{is_date, weekday_of};
-ghost use Rattle.calendar_days.specs.Days.{season_letter, season_digit, day_type_digit, month_day, from, to, season, is_eve, day_type_when, day_type, last_sunday, clock, value_count_under};
+ghost use Rattle.calendar_days.specs.Days.{season_letter, season_digit, day_type_digit};
+ghost use Rattle.calendar_days.specs.Days.{month_day, from, to, season, is_eve, day_type_when, day_type, last_sunday, clock, value_count_under};
 
 use calendar_dates::{CalendarDay, Date};
 use std::fmt;

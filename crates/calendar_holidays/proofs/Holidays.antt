@@ -92,7 +92,8 @@ listed-from date later (x ∷ xs) h = go (ltb x date) refl (listed-from date lat
     n : ℕ
     n = prefix_len (λ entry. ltb entry date) xs
 
-    go : (b : Bool) → ltb x date ≡ b → listed later (drop n xs) ≡ listed later xs → listed later (drop (cond b (1 + n) 0) (x ∷ xs)) ≡ listed later (x ∷ xs)
+    go : (b : Bool) → ltb x date ≡ b → listed later (drop n xs) ≡ listed later xs →
+        listed later (drop (cond b (1 + n) 0) (x ∷ xs)) ≡ listed later (x ∷ xs)
     go true e rest =
         let one : 1 + n ≡ suc n = omega arith in
         rw one (rest ∙ listed-behind later (x ∷ xs) refl (omega (arith, ltb-true x date e)))

@@ -8,9 +8,10 @@ returns-clause-now c =
     let date = c.args.date in
     let before = c.self.inside.ahead.now in
     let is = c.entries_from-self-inside.ensures in
+    let told = c.self.view_is in
     elim c.if-self-lt1.branch [
-      | in-empty w ↦ rw (← c.self.view_is, w.result-is) (listed-ends date before (rw is at w.in-empty.len_below))
-      | in-len1-up w ↦ rw (← c.self.view_is, w.result-is, is) (listed-begins date before c.self.invariant (rw is at w.in-len1-up.len_at_least))
+      | in-empty w ↦ rw (← told, w.result-is) (listed-ends date before (rw is at w.in-empty.len_below))
+      | in-len1-up w ↦ rw (← told, w.result-is, is) (listed-begins date before c.self.invariant (rw is at w.in-len1-up.len_at_least))
     ]
 
 pub returns-clause-later : goal.returns-clause-later
