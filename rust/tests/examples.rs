@@ -159,8 +159,13 @@ impl Repository {
     }
 
     fn set_up(&self) -> Output {
-        let search = format!("{}:/usr/bin:/bin", self.root.join("commands").display());
-        let mut command = Command::new("bash");
+        self.set_up_by("/usr/bin:/bin")
+    }
+
+    /// Sets up with its own commands and those of other folders.
+    fn set_up_by(&self, folders: &str) -> Output {
+        let search = format!("{}:{folders}", self.root.join("commands").display());
+        let mut command = Command::new("/bin/bash");
         command.arg(self.root.join("examples/set_up"));
         command.env("PATH", search).output().expect("it runs")
     }
@@ -187,7 +192,7 @@ fn setting_up_says_how_long_it_takes_and_is_done_once() {
     let (calls, said) = repository.calls();
     assert_eq!(calls, "rt run\nrt lib\ncargo build\n");
     assert!(
-        said.contains("about ten minutes, once") && said.contains("some seconds, once"),
+        said.contains("about ten minutes") && said.contains("some seconds, once"),
         "{said}"
     );
     assert_eq!(repository.calls(), ("cargo build\n".into(), String::new()));
@@ -206,6 +211,27 @@ fn a_crate_that_changes_meanwhile_is_taken_for_new() {
     let (calls, _) = repository.calls();
     assert_eq!(repository.calls().0, calls);
     assert!(calls.starts_with("rt run\n"), "{calls}");
+}
+
+#[test]
+fn what_building_needs_is_looked_for_before_the_proof() {
+    for (missing, kept) in [("cargo", "cc"), ("cc", "cargo")] {
+        let repository = Repository::new(&format!("set_up_without_{missing}"));
+        repository.command(kept, "");
+        let _ = fs::remove_file(repository.root.join("commands").join(missing));
+        for name in ["dirname", "mktemp", "rm", "mkdir", "flock", "find"] {
+            let link = repository.root.join("commands").join(name);
+            std::os::unix::fs::symlink(Path::new("/usr/bin").join(name), link).unwrap();
+        }
+        let output = repository.set_up_by("");
+        let said = String::from_utf8(output.stderr).unwrap();
+        assert_eq!(output.status.code(), Some(1), "{said}");
+        assert_eq!(
+            said,
+            format!("set_up: {missing} is not found: README.md says what building needs\n")
+        );
+        assert!(!repository.root.join("calls").exists());
+    }
 }
 
 #[test]
