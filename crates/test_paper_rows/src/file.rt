@@ -11,6 +11,7 @@ pub fn make(rt: &HostRuntime, file: &mut [u8; LENGTH]) -> io::Result<()> {
     let mut values = [0u16; 1728];
     fill(rt, &mut values, 0, &households::VALUES)?;
     fill(rt, &mut values, 864, &trade::VALUES)?;
+    // Kept: a refusal is printed, since it is no error of input and output, which `?` could pass on.
     if let Err(refusal) = file_write::write(&[0, 1], &values, file) {
         println!(rt; "refused {refusal}")?;
     }

@@ -1,6 +1,4 @@
 // Households, group H0: Abb. 5 and 6.
-ghost use Rattle.std.specs.Prelude.{◌≤◌, IfOk};
-
 use crate::rows::{ROWS, Table};
 use crate::{Scale, file};
 use std::io;
@@ -72,22 +70,8 @@ pub fn compare_powers(rt: &HostRuntime, file: &[u8; file::LENGTH]) -> io::Result
 pub fn compare_factors(rt: &HostRuntime) -> io::Result<()> {
     let mut agree: u32 = 0;
     for (row, printed) in ROWS.iter().zip(&FACTORS) {
-        agree += u32::from(compare_factor(rt, row.t, *printed)?);
+        let ours = dynamisation::factor(0, row.t);
+        agree += u32::from(crate::agrees(rt, &row.t, u64::from(ours), u64::from(*printed))?);
     }
     println!(rt; "Abb. 5, factors: {agree} of 18")
-}
-
-// Whether the factor of a day agrees with the printed one. Where it does not, a line has the day and both; none where none is printed.
-fn compare_factor(rt: &HostRuntime, t: u32, printed: u32) -> io::Result<bool>
-    requires { (1 ≤ t) × (t ≤ 366) }
-{
-    if printed == 0 {
-        return Ok(false);
-    }
-    let ours = dynamisation::factor(0, t);
-    if ours == printed {
-        return Ok(true);
-    }
-    println!(rt; "{t} {ours} {printed}")?;
-    Ok(false)
 }

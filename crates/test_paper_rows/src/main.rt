@@ -14,7 +14,7 @@ ghost use Rattle.std.specs.Prelude.{◌≤◌, IfOk};
 
 use call_request::Request;
 use rows::{COLUMNS, ROWS, Row, Table};
-use std::io;
+use std::{fmt, io};
 
 // Whose figures a table's powers are compared with, and how many units of a figure make a tenth of a watt. For 40,000 kWh a
 // year a figure is Q * 40,000 / 40,000, so it is Q, and its unit is a tenth of a watt.
@@ -71,9 +71,26 @@ fn compare_row(
             quarters: column.position + 1,
             value: *value,
         };
-        agree += u32::from(compare_cell(rt, cell, ours, *printed)?);
+        agree += u32::from(agrees(rt, &cell, ours, u64::from(*printed))?);
     }
     Ok(agree)
+}
+
+// Whether a number agrees with the printed one. Where it does not, a line has what the number is of and both; none where none is printed.
+// Kept: 0 where none is printed, as the tables have it, which are the paper's.
+pub fn agrees<T: fmt::Display>(
+    rt: &HostRuntime,
+    subject: &T,
+    ours: u64,
+    printed: u64,
+) -> io::Result<bool> {
+    if printed == 0 {
+        return Ok(false);
+    }
+    if ours != printed {
+        println!(rt; "{subject} {ours} {printed}")?;
+    }
+    Ok(ours == printed)
 }
 
 // A quarter hour of a table: its day, how many quarter hours of the day are over with it, and its value P.
@@ -84,21 +101,13 @@ struct Cell {
     value: u16,
 }
 
-// Whether a power agrees with the printed one. Where it does not, a line has the day, the time, P and both; none where none is printed.
-// Kept: 0 where none is printed, as the tables have it, which are the paper's.
-fn compare_cell(rt: &HostRuntime, cell: Cell, ours: u64, printed: u16) -> io::Result<bool> {
-    if printed == 0 {
-        return Ok(false);
+// The day, the time and P.
+impl fmt::Display for Cell {
+    fn fmt<W: fmt::Write>(&self, f: &mut fmt::Formatter<W>) -> fmt::Result {
+        let hours = self.quarters / 4;
+        let minutes = self.quarters % 4 * 15;
+        write!(f, "{} {hours:02}:{minutes:02} {}", self.t, self.value)
     }
-    if ours == u64::from(printed) {
-        return Ok(true);
-    }
-    let t = cell.t;
-    let hours = cell.quarters / 4;
-    let minutes = cell.quarters % 4 * 15;
-    let value = cell.value;
-    println!(rt; "{t} {hours:02}:{minutes:02} {value} {ours} {printed}")?;
-    Ok(false)
 }
 
 impl Scale {
@@ -108,7 +117,7 @@ impl Scale {
     }
 }
 
-// The figures of a row's day.
+// The figures of a row's day. A refusal is written, and the figures stay 0, so that the row's cells differ.
 fn expand_row(
     rt: &HostRuntime,
     file: &[u8],
@@ -130,6 +139,7 @@ fn expand_row(
         yearly: scale.yearly,
         carry: 0,
     };
+    // Kept: a refusal is printed, since it is no error of input and output, which `?` could pass on.
     if let Err(refusal) = call_expand::expand(request, figures) {
         println!(rt; "refused {refusal}")?;
     }

@@ -7,6 +7,7 @@ pub const HOLIDAYS: [u32; 2] = [20000101, 20000612];
 pub const REGIONAL_HOLIDAYS: [u32; 4] = [20000101, 20000106, 20000612, 20000622];
 
 // A table of the paper: 20 rows of 8 columns.
+// Kept: each table by itself beside the rows, as the paper prints it, so that it can be read against the page.
 pub type Table = [[u16; 8]; 20];
 
 // A row: its date, with the date's day of the year, and where its day table starts in its group. Days 6 and 174 have a second row,
