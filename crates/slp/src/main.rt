@@ -32,9 +32,7 @@ fn print(rt: &HostRuntime, input: &[u8], page: &mut [u8]) -> io::Result<()>
     requires { page_length ≤ length page.old }
     ensures { page.new ≡ page_after input.now page.old }
 {
-    let Ok(written) = program_response::respond(input, page) else {
-        unreachable!()
-    };
+    let written = program_response::respond(input, page).unwrap();
     match io::writer(rt).write_all(&page[..written]) {
         Ok(()) => Ok(()),
         Err(_) => eprintln!(rt; "slp: the output could not be written"),
