@@ -13,7 +13,7 @@ use Rattle.big_endian.specs.BigEndian.{byte_at, word_at}
 use Rattle.refusal.specs.declared.Refusal.TheVariants.{BadValue}
 use Rattle.refusal.specs.Questions.{Pass}
 use Rattle.refusal.specs.Questions.{Verdict}
-use Rattle.refusal.specs.Questions.{ask, ◌then◌, ask_each, room_question}
+use Rattle.refusal.specs.Questions.{◌then◌, ask_each, room_question}
 use Rattle.refusal.proofs.Questions.{ask-yes, then-pass}
 use Rattle.calendar_dates.specs.Dates.{leap_days, month_length, is_date, days_of_months, day_of_year, days_of_years, day_number, weekday_of, next_day}
 use Rattle.calendar_holidays.specs.Holidays.{listed, holidays_question}

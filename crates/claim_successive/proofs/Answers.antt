@@ -18,7 +18,6 @@ use Rattle.carry.specs.declared.Totals.{Totals}
 use Rattle.carry.specs.Energy.{powers}
 use Rattle.carry.specs.Carry.{last_carry}
 use Rattle.call_request.specs.Request.{quarters, series}
-use Rattle.call_expansion.specs.Answered.{Expansion}
 use Rattle.call_expansion.specs.Answered.{reported}
 use Rattle.call_expand.specs.Expanding.{expand_check, totals, expansion, output_after}
 use Rattle.claim_successive.specs.Reports.{is_accepted, is_expanded, ExpandReports}

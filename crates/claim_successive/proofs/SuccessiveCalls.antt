@@ -7,7 +7,6 @@ use Prim.Native.Nat.{ℕ, ◌≤◌}
 use lib.ListN.{length}
 use Rattle.lists.specs.Lists.{sum, Each}
 use Rattle.refusal.specs.Questions.{Verdict}
-use Rattle.refusal.specs.Questions.{Pass}
 use Rattle.refusal.specs.Questions.{on_pass}
 use Rattle.carry.specs.Carry.{largest_carry, figures, last_carry}
 use Rattle.carry.specs.Energy.{Quarter, powers}
