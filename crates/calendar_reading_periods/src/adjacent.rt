@@ -34,6 +34,7 @@ impl<'a> Model for Periods<'a> {
 
 impl<'a> Periods<'a> {
     // Question 18, inside a span whose own questions passed: the periods, or the refusal.
+    // Kept: the span's two dates as numbers, since question 18 compares numbers, and a `Period` has no number of its last date.
     pub fn new(first: u32, last: u32, starts: &'a [u32]) -> Result<Periods<'a>, Refusal>
         requires { period_check first last ≡ Pass }
         ensures { result ≡ answered (first_dates_question first last starts.now) (periods_of last starts.now) }

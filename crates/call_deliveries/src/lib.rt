@@ -18,6 +18,7 @@ use refusal::Refusal;
 use series::Basis;
 
 // What is asked behind the whole span, questions 17, 18, 9, 10 and 12, and the reading periods.
+// Kept: that the span passed is asked here, as `Periods::new` asks it, which takes the span's two dates and no `Period`.
 fn behind_span<'a>(readings: Readings<'a>, room: usize) -> Result<Periods<'a>, Refusal>
     requires { period_check readings.first readings.last ≡ Pass }
     ensures { result ≡ answered

@@ -13,7 +13,8 @@ use text::Page;
 use text_program_lines::ProgramLine;
 
 // Puts the lines of a request: those of its days and the last one, or the refusal.
-// Kept: that a page has room is asked by each function that puts text, since it is true of a page only until text is put on it.
+// Kept: that a page has room is asked by each function that puts text, since it is true of a page only until text is put on it; a `match`,
+// since a refusal is put on the page and passed on to no one.
 #[tactic(auto, unfolding(crate::specs::Answer::lines_for))]
 pub fn put_answer(request: Request, page: &mut Page)
     requires { Room page_length page.old }

@@ -52,6 +52,7 @@ fn agrees(rt: &HostRuntime, year: u32, t: u32, weekday: u32, listed: Listed) -> 
 }
 
 // What `call_day` answers with the list.
+// Kept: the list is made here, and the second calendar says by itself whether it has a day, since the one is compared with the other.
 fn enquired(date: u32, year: u32, listed: Listed) -> Figures
     requires { year ≤ 2099 }
 {
