@@ -1,8 +1,7 @@
 // Locating a group: its own value bytes as a part of the lent file, or their offset and length.
 #![tactic(auto)]
 
-ghost use Rattle.std.specs.Prelude.{◌≡◌, ◌+◌, ◌*◌, ◌≤◌, length};
-ghost use Rattle.file_layout.specs.Header.{layout_of, profile_length};
+ghost use Rattle.std.specs.Prelude.{◌≡◌};
 ghost use Rattle.file_locate.specs.Locating.{Located, located_part};
 
 // A part of a file by its place: what stands for `locate`'s answer where no slice can be handed back.
@@ -24,22 +23,17 @@ pub fn locate(file: &[u8], group: u8) -> &[u8]
     )
 }
 
-// The part of the profile whose code stands at `at`.
-// Kept: the place beside the file, as `file_group::find` gives it.
-fn part_at(file: &[u8], at: usize) -> LocatedPart
-    requires { at + profile_length (layout_of file.now) ≤ length file.now }
-    ensures { result ≡ record { offset = at + (layout_of file.now).before; length = (layout_of file.now).entries * 2 } }
+// Where the group's own value bytes begin, and how many they are; both 0 on a refusal.
+// Kept: `let .. else`, which document 01 lists ("Forms by place"), for what is taken where nothing was refused.
+pub fn located_part(file: &[u8], group: u8) -> LocatedPart
+    ensures { result ≡ located_part file.now group }
 {
+    let Ok(at) = file_group::find_checked(file, group) else {
+        return LocatedPart::default();
+    };
     let layout = file_layout::layout_of(file);
     LocatedPart {
         offset: at + layout.before,
         length: layout.entries * 2,
     }
-}
-
-// Where the group's own value bytes begin, and how many they are; both 0 on a refusal.
-pub fn located_part(file: &[u8], group: u8) -> LocatedPart
-    ensures { result ≡ located_part file.now group }
-{
-    file_group::find_checked(file, group).map_or(LocatedPart::default(), |at| part_at(file, at))
 }
