@@ -14,9 +14,9 @@ number_of d = d.year * 10_000 + d.month * 100 + d.day
 abbrev pub with_zeros : ℕ → ℕ → List ℕ
 with_zeros digits n = replicate (digits - length (decimal n)) 48 ++ decimal n
 
--- a date's text yyyy-mm-dd, with hyphens (code 45); any three numbers have one
-abbrev pub printed : Date → List ℕ
-printed d = with_zeros 4 d.year ++ (45 ∷ (with_zeros 2 d.month ++ (45 ∷ with_zeros 2 d.day)))
+-- what a date's `Display` prints: yyyy-mm-dd, with hyphens (code 45); any three numbers have such a text
+abbrev pub date_display : Date → List ℕ
+date_display d = with_zeros 4 d.year ++ (45 ∷ (with_zeros 2 d.month ++ (45 ∷ with_zeros 2 d.day)))
 
 -- "Month lengths come from one table of twelve lengths."
 abbrev pub month_lengths : List ℕ

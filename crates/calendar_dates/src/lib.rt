@@ -4,7 +4,7 @@
 mod day;
 
 ghost use Rattle.std.specs.Prelude.{◌≡◌, true, ◌≤◌, Some};
-ghost use Rattle.calendar_dates.specs.Dates.{date_of, printed, month_length, is_date, next_day};
+ghost use Rattle.calendar_dates.specs.Dates.{date_of, date_display, month_length, is_date, next_day};
 
 pub use day::CalendarDay;
 use std::fmt;
@@ -49,7 +49,7 @@ impl From<u32> for Date {
 
 // As yyyy-mm-dd.
 impl fmt::Display for Date {
-    ghost output = { λ date. Some (printed date) };
+    ghost output = { λ date. Some (date_display date) };
 
     fn fmt<W: fmt::Write>(&self, f: &mut fmt::Formatter<W>) -> fmt::Result {
         write!(f, "{:04}-{:02}-{:02}", self.year, self.month, self.day)

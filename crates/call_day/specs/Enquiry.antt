@@ -22,9 +22,9 @@ describe d holidays =
       value_count = value_count d;
     }
 
--- a day's line of text: weekday, t, season letter with day digit, and value count, a space (code 32) between them
-abbrev pub printed : Day → List ℕ
-printed day =
+-- what a day's `Display` prints: weekday, t, season letter with day digit, and value count, a space (code 32) between them
+abbrev pub day_display : Day → List ℕ
+day_display day =
     decimal day.weekday
     ++ (32 ∷ (decimal day.t
     ++ (32 ∷ season_letter day.season ∷ (decimal (day_type_digit day.day_type)

@@ -2,7 +2,7 @@
 #![tactic(auto)]
 
 ghost use Rattle.std.specs.Prelude.{◌≡◌, Some};
-ghost use Rattle.call_day.specs.Enquiry.{describe, printed, day_enquiry, reported};
+ghost use Rattle.call_day.specs.Enquiry.{describe, day_display, day_enquiry, reported};
 
 use calendar_dates::CalendarDay;
 use calendar_days::{DayType, Season};
@@ -20,7 +20,7 @@ pub struct Day {
 
 // Weekday, t, season with day type, and value count.
 impl fmt::Display for Day {
-    ghost output = { λ day. Some (printed day) };
+    ghost output = { λ day. Some (day_display day) };
 
     fn fmt<W: fmt::Write>(&self, f: &mut fmt::Formatter<W>) -> fmt::Result {
         let season = self.season;

@@ -59,9 +59,9 @@ refusal_place WrongReadings = 0
 refusal_place (BadFirstDate index) = index
 refusal_place (ShortPage needed) = needed
 
--- its line of text: the number and the place in decimal, a space (code 32) between them
-abbrev pub printed : Refusal → List ℕ
-printed r = decimal (refusal_number r) ++ (32 ∷ decimal (refusal_place r))
+-- what a refusal's `Display` prints: the number and the place in decimal, a space (code 32) between them
+abbrev pub refusal_display : Refusal → List ℕ
+refusal_display r = decimal (refusal_number r) ++ (32 ∷ decimal (refusal_place r))
 
 -- "number and place, both 0 when all pass"
 abbrev pub number : Verdict → ℕ

@@ -2,7 +2,7 @@
 #![tactic(auto)]
 
 ghost use Rattle.std.specs.Prelude.{◌≡◌, Some};
-ghost use Rattle.refusal.specs.Questions.{refusal_number, refusal_place, printed, reported, room_question};
+ghost use Rattle.refusal.specs.Questions.{refusal_number, refusal_place, refusal_display, reported, room_question};
 
 use std::error::Error;
 use std::fmt;
@@ -97,7 +97,7 @@ impl Refusal {
 
 // The number and the place, as the program's line of a refusal has them.
 impl fmt::Display for Refusal {
-    ghost output = { λ refusal. Some (printed refusal) };
+    ghost output = { λ refusal. Some (refusal_display refusal) };
 
     fn fmt<W: fmt::Write>(&self, f: &mut fmt::Formatter<W>) -> fmt::Result {
         write!(f, "{} {}", self.number(), self.place())
