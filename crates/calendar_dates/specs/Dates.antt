@@ -10,7 +10,7 @@ date_of n = record { year = n / 10_000; month = n / 100 % 100; day = n % 100 }
 abbrev pub number_of : Date → ℕ
 number_of d = d.year * 10_000 + d.month * 100 + d.day
 
--- a number in decimal, with zeros (code 48) in front of it where it has fewer digits than that
+-- a number in decimal, with zeros (code 48) in front of it up to `digits` digits
 abbrev pub with_zeros : ℕ → ℕ → List ℕ
 with_zeros digits n = replicate (digits - length (decimal n)) 48 ++ decimal n
 
