@@ -16,7 +16,8 @@ pub enum Season {
     Transition,
 }
 
-// Kept: a `match` has each letter and digit beside its case, as document 01 lists them, here and below.
+// Kept: a `match` has each letter and digit beside its case, here and below: document 01 gives the seasons' letters and the day types'
+// digits; it gives the seasons no digits, and those are our choice.
 impl Season {
     // Its letter in a line of text.
     pub fn letter(self) -> u8
