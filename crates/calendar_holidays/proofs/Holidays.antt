@@ -43,10 +43,6 @@ nowhere date [] h = refl
 nowhere date (x ∷ xs) h = rw (ne_eqb x date (λ e. omega (arith, h 0 (omega arith)))) (nowhere date xs (λ i l. h (suc i) (omega arith)))
 
 -- the dates of a list in order rise
-later-part : (a b : Bool) → a ≡ false → (a || b) ≡ true → b ≡ true
-later-part false b e h = h
-later-part true b e h = cc
-
 later-than-before : (holidays : List ℕ) (index : ℕ) → 0 < index → holiday_question holidays index ≡ Pass →
     get_or holidays (index - 1) 0 < get_or holidays index 0
 unfolding holiday_question
@@ -54,7 +50,8 @@ later-than-before holidays index h asked =
     let real = ltb index 400 && is_date (date_of (get_or holidays index 0)) in
     let rising = ltb (get_or holidays (index - 1) 0) (get_or holidays index 0) in
     let tests = both real (eqb index 0 || rising) (ask-passed (real && (eqb index 0 || rising)) (BadHoliday index) asked) in
-    ltb-true (get_or holidays (index - 1) 0) (get_or holidays index 0) (later-part (eqb index 0) rising (ne_eqb index 0 (λ e. omega arith)) tests.1)
+    let other : eqb index 0 ≡ false = ne_eqb index 0 (λ e. omega arith) in
+    ltb-true (get_or holidays (index - 1) 0) (get_or holidays index 0) (rw other at tests.1)
 
 module _ (holidays : List ℕ) (in_order : holidays_question holidays ≡ Pass) where
   pub rises : IsStrictlyIncreasing holidays

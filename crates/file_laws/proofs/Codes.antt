@@ -1,7 +1,7 @@
 -- Codes rise strictly through a file that passed question 4, so each group is found where its code stands.
 -- Assumes nothing.
 use mathlib.Core.Path.{◌≡◌, refl, sym, ◌∙◌, ap}
-use mathlib.Core.Bool.{Bool, true, false, ◌||◌}
+use mathlib.Core.Bool.{true, false}
 use mathlib.Core.List.{List}
 use Prim.Native.Nat.{ℕ, zero, suc, ◌+◌, ◌-◌, ◌*◌, ◌≤◌, ◌<◌}
 use native.Mathlib.Omega.{arith}
@@ -18,11 +18,6 @@ use Rattle.file_layout.specs.Header.{header_length, profile_length}
 use Rattle.file_check.specs.Check.{code_question}
 use Rattle.file_group.specs.Group.{offset_among}
 
--- either part of a question is so
-second : (a b : Bool) → a ≡ false → (a || b) ≡ true → b ≡ true
-second true b e h = let z : ◌≡◌ {A = ℕ} 0 1 = cc in absurd (omega arith)
-second false b e h = h
-
 -- the profiles of any layout, one stride apart
 module _ (layout : Layout) (file : List ℕ) (forward : 0 < profile_length layout) where
   -- a code is above the one before it
@@ -34,7 +29,7 @@ module _ (layout : Layout) (file : List ℕ) (forward : 0 < profile_length layou
       let back : at + step - step ≡ at = omega arith in
       let later : eqb (at + step) header_length ≡ false = ne_eqb (at + step) header_length (λ e. omega arith) in
       let above : ltb (byte_at file (at + step - step)) (byte_at file (at + step)) ≡ true =
-      second _ _ later (both (leb (byte_at file (at + step)) 10) _ (ask-passed _ (BadCode (at + step)) p)).1 in
+      rw later at (both (leb (byte_at file (at + step)) 10) _ (ask-passed _ (BadCode (at + step)) p)).1 in
       ltb-true _ _ (rw back at above)
 
   -- and so above every one before it
