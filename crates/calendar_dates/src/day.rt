@@ -28,7 +28,8 @@ impl Model for CalendarDay {
 }
 
 // t, counted from 1 January.
-// Kept: a `for`, since a chain's closure is asked for a month from 1 to 12, which a proof did not know of a range's items.
+// Kept: a `for`: a chain of `map` and `sum` was proved too, and is no plainer: its proof wants lemmas, which the loop's does not, on what
+// the months of a range add up to.
 fn day_of_year(date: Date) -> u32
     requires { is_date date ≡ true }
     ensures { result ≡ day_of_year date }

@@ -13,7 +13,7 @@ use calendar_movable_days::Year;
 pub const MOST_DAYS: usize = 17;
 
 // A regional day is wanted where its bit, the last one of this number, is 1.
-// Kept: the choice is one byte, as C gives it, and asked bit by bit.
+// Kept: the bits of a byte, since a choice of regional days is one byte of the C interface, with a bit for each of them.
 fn regional(bits: u8, date: u32) -> Option<u32>
     ensures { result ≡ regional bits date }
 {
