@@ -14,7 +14,7 @@ use Rattle.lists.proofs.Members.{each_append}
 use Rattle.calendar_dates.specs.declared.Date.{Date}
 use Rattle.calendar_dates.specs.Dates.{is_date, number_of}
 use Rattle.calendar_dates.proofs.Dates.{parts}
-use Rattle.text.specs.Text.{digit, decimal, two_digits, date_text}
+use Rattle.text.specs.Text.{digit, decimal_text, two_digits, date_text}
 use Rattle.text.proofs.Text.{front, front-none, digits_last, decimal-some}
 use Rattle.text_columns.specs.Columns.{spaces, right_aligned}
 use Rattle.claim_page.specs.ReadBack.{number, read_digits, read_number, read_right_aligned, read_date}
@@ -45,7 +45,7 @@ read-front (suc k) (suc n) rest h =
     ∙ ap (λ (m : ℕ). read_digits m rest) whole
 
 -- all of them
-read-decimal : (n : ℕ) → n < 10 ^ 20 → read_digits 0 (decimal n) ≡ number n
+read-decimal : (n : ℕ) → n < 10 ^ 20 → read_digits 0 (decimal_text n) ≡ number n
 read-decimal n h =
     let last = n % 10 in
     let whole : n / 10 * 10 + last ≡ n = omega arith in
@@ -65,7 +65,7 @@ front-digits (suc k) zero = tt
 front-digits (suc k) (suc n) =
     rw (digits_last k (suc n)) (each_append _ (front k (suc n / 10)) (digit (suc n % 10) ∷ []) (front-digits k (suc n / 10)) (omega arith, tt))
 
-decimal-digits : (n : ℕ) → Digits (decimal n)
+decimal-digits : (n : ℕ) → Digits (decimal_text n)
 decimal-digits n = rw (digits_last 19 n) (each_append _ (front 19 (n / 10)) (digit (n % 10) ∷ []) (front-digits 19 (n / 10)) (omega arith, tt))
 
 digits-alone : (bytes : List ℕ) → 1 ≤ length bytes → Digits bytes → read_right_aligned bytes ≡ read_number bytes
@@ -95,7 +95,7 @@ and_no true = refl
 and_no false = refl
 
 -- so none stands in front of others
-no-leading-zero : (n : ℕ) → n < 10 ^ 20 → (eqb (get_or (decimal n) 0 0) 48 && ltb 1 (length (decimal n))) ≡ false
+no-leading-zero : (n : ℕ) → n < 10 ^ 20 → (eqb (get_or (decimal_text n) 0 0) 48 && ltb 1 (length (decimal_text n))) ≡ false
 no-leading-zero n h =
     rw (digits_last 19 n)
     (⊎_elim
@@ -103,7 +103,7 @@ no-leading-zero n h =
     (λ more. rw (ne_eqb (get_or (front 19 (n / 10) ++ (digit (n % 10) ∷ [])) 0 0) 48 (λ e. omega (arith, front-first 19 (n / 10) (digit (n % 10) ∷ []) more (omega arith)))))
     (eq-zero-or-pos (n / 10)))
 
-number-alone : (n : ℕ) → n < 10 ^ 20 → read_number (decimal n) ≡ read_digits 0 (decimal n)
+number-alone : (n : ℕ) → n < 10 ^ 20 → read_number (decimal_text n) ≡ read_digits 0 (decimal_text n)
 unfolding read_number
 number-alone n h = rw (no-leading-zero n h)
 
@@ -115,8 +115,8 @@ behind-spaces (suc n) rest = behind-spaces n rest
 pub read_right : (width n : ℕ) → n < 10 ^ 20 → read_right_aligned (right_aligned width n) ≡ number n
 unfolding right_aligned
 read_right width n h =
-    behind-spaces (width - length (decimal n)) (decimal n)
-    ∙ digits-alone (decimal n) (decimal-some n) (decimal-digits n)
+    behind-spaces (width - length (decimal_text n)) (decimal_text n)
+    ∙ digits-alone (decimal_text n) (decimal-some n) (decimal-digits n)
     ∙ number-alone n h
     ∙ read-decimal n h
 

@@ -10,7 +10,7 @@ use Rattle.call_expansion.specs.Answered.{Expansion, reported}
 use Rattle.call_expansion.specs.declared.ExpansionReport.{ExpansionReport}
 use Rattle.call_expand.specs.Expanding.{totals, expansion, lent, IsExpanded}
 use Rattle.call_rows.specs.Rows.{rows_of, date_of_day, on_day}
-use Rattle.text.specs.Text.{decimal}
+use Rattle.text.specs.Text.{decimal_text}
 use Rattle.text_fields.specs.Fields.{day_type_text}
 use Rattle.call_page.specs.Page.{page_text, bytes_needed, page_check, page_answer, Prints, Reports}
 use Rattle.claim_page.specs.ReadBack.{number, none, Parted, first_on, day_type_on, date_on, count_on, watt_hours_on, added}
@@ -50,10 +50,10 @@ pub record PageRead (q : Request) (report : ExpansionReport) (page : List ℕ) :
 
 -- "count right-aligned (6)", "Wh right-aligned (16)": the widths are enough, for the largest request too
 pub record WidthsEnough (q : Request) : Type 0 where
-  pub counts : Each (λ row. length (decimal row.count) ≤ 6) (rows_of q)
-  pub watt_hours : Each (λ row. length (decimal row.watt_hours) ≤ 16) (rows_of q)
-  pub count : length (decimal (totals q).count) ≤ 6
-  pub total : length (decimal (totals q).total) ≤ 16
+  pub counts : Each (λ row. length (decimal_text row.count) ≤ 6) (rows_of q)
+  pub watt_hours : Each (λ row. length (decimal_text row.watt_hours) ≤ 16) (rows_of q)
+  pub count : length (decimal_text (totals q).count) ≤ 6
+  pub total : length (decimal_text (totals q).total) ≤ 16
   -- no page needs more bytes than this
   pub longest : bytes_needed (days_in q) ≤ 55_556
 

@@ -9,7 +9,7 @@ use native.Mathlib.Nat.{eq-zero-or-pos, pow-succ'}
 use lib.ListN.{length, length-append}
 use borrow.Author.Tests.{lt-ltb, le-ltb}
 use Rattle.calendar_dates.specs.declared.Date.{Date}
-use Rattle.text.specs.Text.{digit, digits, decimal, date_text}
+use Rattle.text.specs.Text.{digit, digits, decimal_text, date_text}
 use Rattle.text.specs.Inside.{last_digits}
 
 -- the digits in front of the last: none where nothing is left
@@ -48,7 +48,7 @@ front-short (suc k) (suc n) (suc j) h =
     let less : suc n / 10 < 10 ^ j = omega (arith, pow-succ' 10 j) in
     omega (arith, digits-count k (suc n), front-short k (suc n / 10) j less)
 
-pub decimal-short : (n k : ℕ) → n < 10 ^ k → 1 ≤ k → length (decimal n) ≤ k
+pub decimal-short : (n k : ℕ) → n < 10 ^ k → 1 ≤ k → length (decimal_text n) ≤ k
 decimal-short n zero h some = omega arith
 decimal-short n (suc k) h some =
     let less : n / 10 < 10 ^ k = omega (arith, pow-succ' 10 k) in
@@ -67,19 +67,19 @@ front-long (suc k) (suc n) (suc j) h less =
     let deeper : 10 ^ j ≤ suc n / 10 = omega (arith, pow-succ' 10 j) in
     omega (arith, digits-count k (suc n), front-long k (suc n / 10) j deeper (omega arith))
 
-pub decimal-long : (n k : ℕ) → 10 ^ k ≤ n → k < 20 → k < length (decimal n)
+pub decimal-long : (n k : ℕ) → 10 ^ k ≤ n → k < 20 → k < length (decimal_text n)
 decimal-long n zero h less = omega (arith, digits-count 19 n)
 decimal-long n (suc k) h less =
     let deeper : 10 ^ k ≤ n / 10 = omega (arith, pow-succ' 10 k) in
     omega (arith, digits-count 19 n, front-long 19 (n / 10) k deeper (omega arith))
 
 -- a number of so many places more than one: the whole part of its logarithm to base 10
-pub places_more : (n k : ℕ) → 10 ^ k ≤ n → n < 10 * 10 ^ k → k < 20 → k + 1 ≡ length (decimal n)
+pub places_more : (n k : ℕ) → 10 ^ k ≤ n → n < 10 * 10 ^ k → k < 20 → k + 1 ≡ length (decimal_text n)
 places_more n k least below less =
-    let most : length (decimal n) ≤ suc k = decimal-short n (suc k) (omega (arith, pow-succ' 10 k)) (omega arith) in
+    let most : length (decimal_text n) ≤ suc k = decimal-short n (suc k) (omega (arith, pow-succ' 10 k)) (omega arith) in
     omega (arith, decimal-long n k least less)
 
-pub decimal-some : (n : ℕ) → 1 ≤ length (decimal n)
+pub decimal-some : (n : ℕ) → 1 ≤ length (decimal_text n)
 decimal-some n = omega (arith, digits-count 19 n)
 
 -- the last digits, as many as there are, are all
@@ -94,14 +94,14 @@ front-all zero n = refl
 front-all (suc k) zero = refl
 front-all (suc k) (suc n) = one_more k (suc n) (front-all k (suc n / 10))
 
-pub decimal-all : (n : ℕ) → decimal n ≡ last_digits (length (decimal n)) n
+pub decimal-all : (n : ℕ) → decimal_text n ≡ last_digits (length (decimal_text n)) n
 decimal-all n = one_more 19 n (front-all 19 (n / 10))
 
--- any number has at most 20 digits: `decimal` writes no more
+-- any number has at most 20 digits: `decimal_text` writes no more
 front-most : (k n : ℕ) → length (front k n) ≤ k
 front-most zero n = omega arith
 front-most (suc k) zero = omega arith
 front-most (suc k) (suc n) = omega (arith, digits-count k (suc n), front-most k (suc n / 10))
 
-pub decimal-most : (n : ℕ) → length (decimal n) ≤ 20
+pub decimal-most : (n : ℕ) → length (decimal_text n) ≤ 20
 decimal-most n = omega (arith, digits-count 19 n, front-most 19 (n / 10))

@@ -22,8 +22,8 @@ digits zero n = []
 digits (suc places) n = cond (ltb n 10) (digit n ∷ []) (digits places (n / 10) ++ (digit (n % 10) ∷ []))
 
 -- 20 places hold every 64-bit number, and no number that is printed is larger
-abbrev pub decimal : ℕ → List ℕ
-decimal n = digits 20 n
+abbrev pub decimal_text : ℕ → List ℕ
+decimal_text n = digits 20 n
 
 -- two digits, with a zero in front where the number is below 10
 abbrev pub two_digits : ℕ → List ℕ

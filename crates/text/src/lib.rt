@@ -3,7 +3,7 @@
 
 ghost use Rattle.std.specs.Prelude.{◌≡◌, [], ◌∷◌, ◌<◌, length};
 ghost use Rattle.text.specs.Inside.{Put, Room, last_digits};
-ghost use Rattle.text.specs.Text.{decimal, two_digits, date_text};
+ghost use Rattle.text.specs.Text.{decimal_text, two_digits, date_text};
 
 use calendar_dates::CalendarDay;
 
@@ -65,7 +65,7 @@ impl<'a> Page<'a> {
     // Puts a number in decimal.
     pub fn put_decimal(&mut self, n: u64)
         requires { Room 20 self.old }
-        ensures { Put (decimal n) self.old self.new }
+        ensures { Put (decimal_text n) self.old self.new }
     {
         self.put_last_digits(n, digit_count(n));
     }
@@ -88,7 +88,7 @@ impl<'a> Page<'a> {
 // How many digits a number has in decimal.
 #[tactic(auto, using(crate::proofs::Text::places_more), unfolding(crate::specs::Text::digits))]
 pub fn digit_count(n: u64) -> usize
-    ensures { result ≡ length (decimal n) }
+    ensures { result ≡ length (decimal_text n) }
 {
     match n {
         0 => 1,

@@ -2,7 +2,7 @@
 use Rattle.std.specs.Prelude.{List, [], ◌∷◌, ℕ}
 use Rattle.calendar_days.specs.declared.DayKind.{DayKind}
 use Rattle.calendar_days.specs.Days.{season_letter, day_type_digit}
-use Rattle.text.specs.Text.{space, digit, decimal}
+use Rattle.text.specs.Text.{space, digit, decimal_text}
 
 -- "season letter (W, S, T) with day digit (1 weekday, 2 Saturday, 3 Sunday)"
 abbrev pub day_type_text : DayKind → List ℕ
@@ -10,7 +10,7 @@ day_type_text kind = season_letter kind.season ∷ digit (day_type_digit kind.da
 
 -- a number behind the field before it: "fields are split by one space"
 abbrev pub field : ℕ → List ℕ
-field n = space ∷ decimal n
+field n = space ∷ decimal_text n
 
 -- "the word total", in ASCII
 abbrev pub total_word : List ℕ

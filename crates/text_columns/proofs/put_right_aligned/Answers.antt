@@ -2,7 +2,7 @@
 use Rattle.std.proofs.Common.{◌≡◌, ◌++◌, ℕ, ◌-◌, ◌^◌, ◌≤◌, ◌<◌, length, arith}
 use Rattle.std.proofs.Math.ListN.{length-replicate}
 use Rattle.text.specs.declared.Page.{Page}
-use Rattle.text.specs.Text.{space, decimal}
+use Rattle.text.specs.Text.{space, decimal_text}
 use Rattle.text.specs.Inside.{Put, Room, last_digits}
 use Rattle.text.proofs.Text.{decimal-short, decimal-all}
 use Rattle.text.proofs.Puts.{both}
@@ -10,13 +10,13 @@ use Rattle.text_columns.specs.Columns.{spaces, right_aligned}
 use Rattle.text_columns.proofs.Columns.{length-right}
 use Rattle.text_columns.proofs.put_right_aligned.Goals as goal
 
-aligned : (n width : ℕ) {places : ℕ} {a b c : Page} → places ≡ length (decimal n) → 1 ≤ width → n < 10 ^ width → Room width a →
+aligned : (n width : ℕ) {places : ℕ} {a b c : Page} → places ≡ length (decimal_text n) → 1 ≤ width → n < 10 ^ width → Room width a →
     Put (spaces (width - places)) a b → Put (last_digits places n) b c → Put (right_aligned width n) a c
 unfolding right_aligned
 aligned n width {a = a} {c = c} e some fits room first second =
     let short = decimal-short n width fits some in
-    let many = length-replicate (width - length (decimal n)) space in
-    let text : Put (spaces (width - length (decimal n)) ++ decimal n) a c =
+    let many = length-replicate (width - length (decimal_text n)) space in
+    let text : Put (spaces (width - length (decimal_text n)) ++ decimal_text n) a c =
     both (rw e at first) (rw (decimal-all n) (rw e at second)) (omega arith) in
     text
 
