@@ -8,8 +8,7 @@ use native.Mathlib.Omega.{arith}
 use native.Mathlib.Nat.{eq-zero-or-pos, pow-succ'}
 use lib.ListN.{length, length-append}
 use borrow.Author.Tests.{lt-ltb, le-ltb}
-use Rattle.calendar_dates.specs.declared.Date.{Date}
-use Rattle.text.specs.Text.{digit, digits, decimal_text, date_text}
+use Rattle.text.specs.Text.{digit, digits, decimal_text}
 use Rattle.text.specs.Inside.{last_digits}
 
 -- the digits in front of the last: none where nothing is left
