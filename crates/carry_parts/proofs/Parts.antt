@@ -2,7 +2,7 @@
 use Rattle.std.proofs.Common.{◌≡◌, refl, List, [], ◌∷◌, ℕ, ◌+◌, ◌*◌, ◌/◌, ◌%◌, ◌≤◌, ◌<◌, arith}
 use Rattle.std.proofs.Math.Nat.{mul-le-mul}
 use Rattle.lists.specs.Lists.{sum}
-use Rattle.carry_quotients.specs.Growths.{growths}
+use Rattle.carry_quotients.specs.Inside.{growths}
 
 -- what stands for n: n / 40,000 in parts, rounded up
 abbrev pub scaled : ℕ → ℕ

@@ -4,8 +4,7 @@ use Rattle.std.proofs.Math.Nat.{mul-le-mul, mul_comm}
 use Rattle.lists.specs.Lists.{sum}
 use Rattle.carry.specs.Carry.{largest_carry, figures, last_carry}
 use Rattle.carry.proofs.Carry.{telescope, carry-small}
-use Rattle.carry_quotients.specs.Growths.{growths, Growing}
-use Rattle.carry_quotients.specs.Inside.{SmallPowers, RangeCarried}
+use Rattle.carry_quotients.specs.Inside.{SmallPowers, RangeCarried, growths, Growing}
 use Rattle.carry_quotients.specs.declared.Carried.{Carried}
 
 -- the sum of small powers

@@ -6,7 +6,7 @@ use Rattle.std.proofs.lemmas.Nat.{le-div, div_below}
 use Rattle.lists.specs.Lists.{sum}
 use Rattle.lists.proofs.Parts.{drop-next}
 use Rattle.lists.proofs.Stores.{Storing, nothing_stored, one-stored, all-stored, stored-first}
-use Rattle.carry_quotients.specs.Growths.{growths, Growing}
+use Rattle.carry_quotients.specs.Inside.{growths, Growing}
 
 -- a quotient does not fall, and grows by no more than what is added goes into the sum
 pub grows : (unit sum added : ℕ) → 0 < unit → sum / unit ≤ (sum + added) / unit

@@ -3,8 +3,7 @@
 
 ghost use Rattle.std.specs.Prelude.{◌≡◌, ◌+◌, ◌*◌, ◌≤◌, ◌++◌, drop, length};
 ghost use Rattle.lists.specs.Lists.{sum};
-ghost use Rattle.carry_quotients.specs.Growths.{growths, Growing};
-ghost use Rattle.carry_quotients.specs.Inside.{SmallPowers, RangeCarried};
+ghost use Rattle.carry_quotients.specs.Inside.{SmallPowers, RangeCarried, growths, Growing};
 
 // What some quarter hours come to: the sum of their figures in Wh, and the carry that they leave.
 // Kept: no count beside them, as carry::Totals has, since a range has as many figures as powers, and the day's count is its clock's.

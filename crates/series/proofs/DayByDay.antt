@@ -25,9 +25,8 @@ use Rattle.carry.specs.Energy.{powers}
 use Rattle.carry.proofs.Carry.{figures-append, carry-append, carry-small, telescope}
 use Rattle.day_powers.specs.DayQuarters.{Basis, day_quarters}
 use Rattle.day_powers.proofs.DayQuarters.{each-position, day-powers-positions}
-use Rattle.series.specs.Inside.{GroupValues, InRange, comes_to}
+use Rattle.series.specs.Inside.{GroupValues, InRange, comes_to, with_kinds}
 use Rattle.series.specs.Series.{quarters_of_days}
-use Rattle.series.specs.Kinds.{with_kinds}
 use Rattle.series.proofs.Series.{length-quarters}
 use Rattle.series.proofs.OneDay.{powers_before, day_powers, day-powers-small}
 

@@ -10,7 +10,7 @@ use Rattle.calendar_holidays.specs.Holidays.{listed}
 use Rattle.calendar_days.specs.declared.DayKind.{DayKind}
 use Rattle.calendar_days.specs.Days.{season, day_type_when}
 use Rattle.calendar_period.specs.Period.{dates_from}
-use Rattle.series.specs.Kinds.{with_kinds, NotFalling}
+use Rattle.series.specs.Inside.{with_kinds, NotFalling}
 
 -- the dates from one on are none of them earlier than what it is not earlier than
 after : (k n : ℕ) (d : Date) → AllDates n d → k ≤ number_of d → Each (λ (later : Date). k ≤ number_of later) (dates_from n d)

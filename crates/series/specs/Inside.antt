@@ -1,6 +1,11 @@
--- What the functions of this crate require, which expanding, the lines of days and the deliveries show. No definition of document 01.
-use Rattle.std.specs.Prelude.{◌≡◌, List, ◌++◌, ℕ, ◌≤◌, length, drop, get_or}
-use Rattle.lists.specs.Lists.{sum}
+-- What the functions of this crate require, which expanding, the lines of days and the deliveries show, and what they promise.
+-- No definition of document 01.
+use Rattle.std.specs.Prelude.{◌≡◌, List, [], ◌∷◌, ◌++◌, ℕ, ◌≤◌, length, drop, get_or, map}
+use Rattle.lists.specs.Lists.{sum, Each}
+use Rattle.calendar_dates.specs.declared.Date.{Date}
+use Rattle.calendar_dates.specs.Dates.{number_of}
+use Rattle.calendar_days.specs.declared.DayKind.{DayKind}
+use Rattle.calendar_days.specs.Days.{day_kind}
 use Rattle.carry.specs.declared.Totals.{Totals}
 use Rattle.carry.specs.Carry.{largest_use, largest_carry, figures, last_carry}
 
@@ -22,3 +27,12 @@ comes_to yearly powers carry = record { count = length powers; total = sum (figu
 pub record Filled (yearly : ℕ) (powers : List ℕ) (carry : ℕ) (out : List ℕ) (r : Totals) (after : List ℕ) : Type 0 where
   pub stored : after ≡ figures yearly powers carry ++ drop (length powers) out
   pub totals : r ≡ comes_to yearly powers carry
+
+-- each date with its season and day type, by a list of holidays
+abbrev pub with_kinds : List ℕ → List Date → List (Date × DayKind)
+with_kinds holidays dates = map (λ d. (d, day_kind d holidays)) dates
+
+-- no date is earlier than one before it
+abbrev pub NotFalling : List Date → Type 0
+NotFalling [] = Unit {0}
+NotFalling (d ∷ dates) = Each (λ later. number_of d ≤ number_of later) dates × NotFalling dates

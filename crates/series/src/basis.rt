@@ -8,8 +8,7 @@ ghost use Rattle.dynamisation.specs.Dynamisation.{F};
 ghost use Rattle.day_powers.specs.DayTable.{day_table_at, day_table_of};
 ghost use Rattle.day_powers.specs.DayQuarters.{basis};
 ghost use Rattle.day_powers.specs.Inside.{powers_by};
-ghost use Rattle.series.specs.Inside.{GroupValues};
-ghost use Rattle.series.specs.Kinds.{with_kinds};
+ghost use Rattle.series.specs.Inside.{GroupValues, with_kinds};
 
 use crate::KindDays;
 use calendar_dates::CalendarDay;

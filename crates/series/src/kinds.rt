@@ -2,7 +2,7 @@
 ghost use Rattle.std.specs.Prelude.{◌≡◌};
 ghost use Rattle.std.specs.Iterator.{YieldsFirst, item_count};
 ghost use Rattle.calendar_days.specs.Days.{season, day_type_when};
-ghost use Rattle.series.specs.Kinds.{with_kinds, NotFalling};
+ghost use Rattle.series.specs.Inside.{with_kinds, NotFalling};
 
 use calendar_dates::CalendarDay;
 use calendar_days::DayKind;
@@ -22,7 +22,7 @@ impl<'a> Model for KindDays<'a> {
     ghost use Rattle.std.specs.Prelude.{List};
     ghost use Rattle.calendar_dates.specs.declared.Date.{Date};
     ghost use Rattle.calendar_days.specs.declared.DayKind.{DayKind};
-    ghost use Rattle.series.specs.Kinds.{with_kinds, NotFalling};
+    ghost use Rattle.series.specs.Inside.{with_kinds, NotFalling};
 
     ghost Value = { List (Date × DayKind) };
 

@@ -3,7 +3,7 @@ ghost use Rattle.std.specs.Prelude.{ℕ, ◌^◌, ◌≤◌, ◌<◌, List, leng
 ghost use Rattle.calendar_days.specs.declared.DayKind.{DayKind};
 ghost use Rattle.series_rows.specs.Rows.{Row};
 ghost use Rattle.text.specs.Inside.{Put, Room};
-ghost use Rattle.text_fields.specs.Entry.{row_in};
+ghost use Rattle.text_fields.specs.Inside.{row_in};
 
 use calendar_dates::CalendarDay;
 use calendar_days::DayKind;

@@ -14,8 +14,7 @@ use Rattle.carry.specs.Totals.{together}
 use Rattle.carry.specs.Carry.{last_carry}
 use Rattle.carry.proofs.Carry.{length-figures}
 use Rattle.day_powers.specs.DayQuarters.{Basis}
-use Rattle.series.specs.Inside.{GroupValues, comes_to}
-use Rattle.series.specs.Kinds.{with_kinds}
+use Rattle.series.specs.Inside.{GroupValues, comes_to, with_kinds}
 use Rattle.series.proofs.OneDay.{day_powers}
 use Rattle.series.proofs.DayByDay.{SoFar, powers_from, all-done, count-fits, total-fits, day-done}
 use Rattle.series_rows.specs.Rows.{Row, row_of, day_row, rows}

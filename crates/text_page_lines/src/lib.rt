@@ -3,7 +3,7 @@
 
 ghost use Rattle.std.specs.Prelude.{◌≡◌, ◌+◌, ◌^◌, ◌<◌};
 ghost use Rattle.text.specs.Inside.{Put, Room};
-ghost use Rattle.text_fields.specs.Entry.{row_in};
+ghost use Rattle.text_fields.specs.Inside.{row_in};
 ghost use Rattle.text_page_lines.specs.PageLines.{day_type_width, count_width, watt_hours_width, line_length, day_page_line, last_page_line};
 ghost use Rattle.text_page_lines.specs.Inside.{amounts};
 ghost use Rattle.text_page_lines.specs.Lengths.{within-line};

@@ -3,7 +3,7 @@
 
 ghost use Rattle.std.specs.Prelude.{◌<◌};
 ghost use Rattle.text.specs.Inside.{Put, Room};
-ghost use Rattle.text_fields.specs.Entry.{row_in};
+ghost use Rattle.text_fields.specs.Inside.{row_in};
 ghost use Rattle.text_program_lines.specs.Lines.{day_line, last_line};
 ghost use Rattle.text_program_lines.specs.Lengths.{day-line-short};
 

@@ -1,7 +1,7 @@
 -- `PageLine::put` of `text_page_lines` meets its contract: the parts, put one behind the other, are the line.
 use Rattle.std.proofs.Common.{arith}
 use Rattle.text.proofs.Puts.{behind}
-use Rattle.text_fields.specs.Entry.{row_in}
+use Rattle.text_fields.specs.Inside.{row_in}
 use Rattle.text_page_lines.specs.PageLines.{page_line}
 use Rattle.text_page_lines.proofs.PageLines.{day-line-length}
 use Rattle.text_page_lines.proofs.PageLineDayLine.put.Goals as goal

@@ -2,7 +2,7 @@
 use Rattle.std.proofs.Common.{arith}
 use Rattle.text.proofs.Text.{decimal-short, decimal-most}
 use Rattle.text.proofs.Puts.{behind}
-use Rattle.text_fields.specs.Entry.{row_in}
+use Rattle.text_fields.specs.Inside.{row_in}
 use Rattle.text_program_lines.specs.Lengths.{day-line-short}
 use Rattle.text_program_lines.specs.Lines.{day_line}
 use Rattle.text_program_lines.proofs.ProgramLineDayLine.put.Goals as goal
