@@ -1,5 +1,5 @@
 pub mod Series
 pub mod OneDay
-pub mod RisingDates
+pub mod DaysWithKinds
 pub mod DayByDay
 pub mod Storing

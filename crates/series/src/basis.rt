@@ -53,7 +53,7 @@ impl<'a> Basis<'a> {
     }
 
     // The days of a period, each with its season and day type.
-    #[tactic(auto, using(crate::proofs::RisingDates::not_falling))]
+    #[tactic(auto, using(crate::proofs::DaysWithKinds::not_falling))]
     pub fn days(&self, period: Period) -> KindDays<'a>
         ensures value { result ≡ with_kinds self.now.holidays (dates_from period.days period.first) }
         ensures group_values { GroupValues self.now.values }

@@ -48,7 +48,7 @@ impl<'a> Iterator for KindDays<'a> {
     ghost remaining = { item_count (λ days. days) };
 
     #[inline(always)]
-    #[tactic(auto, using(crate::proofs::RisingDates::first_day))]
+    #[tactic(auto, using(crate::proofs::DaysWithKinds::first_day))]
     fn next(&mut self) -> Option<(CalendarDay, DayKind)> {
         let day = self.dates.next()?;
         let holiday = self.ahead.lists(day.number());
