@@ -19,7 +19,7 @@ use Rattle.call_request.specs.Request.{Request, days_in, basis_of, request_check
 use Rattle.call_request.proofs.Sound.{sound}
 use Rattle.call_expand.specs.Expanding.{totals}
 use Rattle.call_rows.specs.Rows.{rows_of}
-use Rattle.text.proofs.Text.{decimal-most}
+use Rattle.text.proofs.Text.{decimal_most}
 use Rattle.text_program_lines.specs.Lines.{day_line, last_line}
 use Rattle.text_listing.specs.Listing.{line_after_line}
 use Rattle.text_program_lines.specs.Lengths.{day-line-short, last-line-short}
@@ -42,7 +42,7 @@ lines-room q (Ok _) h =
     let days = (sound q (h refl)).period.short in
     let lines = lines-short day_line 39 (λ kind row few. day-line-short kind row few) (basis_of q) q.yearly (days_in q) (date_of q.first) q.carry (values-of-table q) in
     omega (arith, lines, days, last-line-short (days_in q) (totals q), length-append (line_after_line day_line q.holidays (rows_of q)) (last_line (days_in q) (totals q)))
-lines-room q (Err r) h = simp length-append (omega (arith, decimal-most (refusal_number r), decimal-most (refusal_place r)))
+lines-room q (Err r) h = simp length-append (omega (arith, decimal_most (refusal_number r), decimal_most (refusal_place r)))
 
 pub enough-room : EnoughRoom
 unfolding EnoughRoom printed

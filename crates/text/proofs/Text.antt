@@ -102,5 +102,5 @@ front-most zero n = omega arith
 front-most (suc k) zero = omega arith
 front-most (suc k) (suc n) = omega (arith, digits-count k (suc n), front-most k (suc n / 10))
 
-pub decimal-most : (n : ℕ) → length (decimal_text n) ≤ 20
-decimal-most n = omega (arith, digits-count 19 n, front-most 19 (n / 10))
+pub decimal_most : (n : ℕ) → length (decimal_text n) ≤ 20
+decimal_most n = omega (arith, digits-count 19 n, front-most 19 (n / 10))

@@ -1,6 +1,6 @@
 -- `ProgramLine::put` of `text_program_lines` meets its contract: the parts, put one behind the other, are the line.
 use Rattle.std.proofs.Common.{arith}
-use Rattle.text.proofs.Text.{decimal-short, decimal-most}
+use Rattle.text.proofs.Text.{decimal-short, decimal_most}
 use Rattle.text.proofs.Puts.{behind}
 use Rattle.text_fields.specs.Inside.{row_in}
 use Rattle.text_program_lines.specs.Lengths.{day-line-short}
@@ -13,7 +13,7 @@ put_field-requires-2 c = omega (arith, decimal-short c.args.entry.now.count 3 c.
 pub put_byte-requires-2 : goal.put_byte-requires-2
 put_byte-requires-2 c =
     let e = c.args.entry.now in
-    omega (arith, decimal-short e.count 3 c.requires.count_bound (omega arith), decimal-most e.watt_hours)
+    omega (arith, decimal-short e.count 3 c.requires.count_bound (omega arith), decimal_most e.watt_hours)
 
 pub returns : goal.returns
 unfolding day_line
