@@ -7,7 +7,7 @@ use Rattle.calendar_days.specs.Days.{positions, value_count_under}
 use Rattle.carry.specs.Carry.{figures, last_carry}
 use Rattle.carry_quotients.specs.declared.Carried.{Carried}
 
--- the figures of the day's positions after the clock change, stored in front of the output, and what they come to
+-- the figures of the day's positions after the clock change, stored at the start of the output, and what they come to
 pub record DayCarried (powers : List ℕ) (clock : Clock) (yearly carry : ℕ) (before : List ℕ) (r : Carried) (after : List ℕ) : Type 0 where
   pub figures_stored : after ≡ figures yearly (positions clock powers) carry ++ drop (value_count_under clock) before
   pub total_is : r.total ≡ sum (figures yearly (positions clock powers) carry)

@@ -9,7 +9,8 @@ ghost use Rattle.carry_day.specs.Inside.{DayCarried, first_end, second_start};
 use calendar_days::Clock;
 use carry_quotients::Carried;
 
-// The day's positions after the clock change, as two ranges, the second behind the first.
+// The day's powers after the clock change, as two ranges of the 96: those of the first come first, then those of the second. Where the
+// clock does not change, the first has all of them, and the second none.
 #[tactic(auto, unfolding(calendar_days::specs::Days::positions))]
 pub fn ranges_of(powers: &[u32], clock: Clock) -> (&[u32], &[u32])
     requires { length powers.now ≡ 96 }
@@ -28,7 +29,7 @@ pub fn ranges_of(powers: &[u32], clock: Clock) -> (&[u32], &[u32])
 }
 
 // Stores the figures of a range, in parts where the yearly use is small enough.
-// Kept: arguments and bounds one by one, here and below, as of `carry_quotients::carry_by_quotients`.
+// Kept: arguments and bounds as in `carry_quotients::carry_by_quotients`, for the reason there, here and below.
 fn carry_range(powers: &[u32], yearly: u32, carry: u32, out: &mut [u32]) -> Carried
     requires small_powers { SmallPowers powers.now yearly carry }
     requires in_day { length powers.now ≤ 96 }
@@ -64,7 +65,7 @@ fn carry_changed_day(
     }
 }
 
-// Stores the day's figures in front of the output. A day without a clock change is one range, whose length the compiler knows.
+// Stores the day's figures at the start of the output. A day without a clock change is one range, whose length the compiler knows.
 pub fn carry_day(
     powers: [u32; 96],
     clock: Clock,

@@ -11,7 +11,7 @@ pub record SmallPowers (powers : List ℕ) (yearly carry : ℕ) : Type 0 where
   pub yearly_small : yearly ≤ largest_use
   pub in_range : carry ≤ largest_carry
 
--- the figures of some powers, stored in front of the output, and what they come to
+-- the figures of some powers, stored at the start of the output, and what they come to
 pub record RangeCarried (powers : List ℕ) (yearly carry : ℕ) (before : List ℕ) (r : Carried) (after : List ℕ) : Type 0 where
   pub figures_stored : after ≡ figures yearly powers carry ++ drop (length powers) before
   pub total_is : r.total ≡ sum (figures yearly powers carry)

@@ -13,7 +13,7 @@ pub struct Carried {
     pub carry: u32,
 }
 
-// Adds up the powers, each times `factor`, from `first` on, and stores in front of `out` what each adds to the sum's quotient by
+// Adds up the powers, each times `factor`, from `first` on, and stores at the start of `out` what each adds to the sum's quotient by
 // UNIT, which is above `first`. Answers the last sum. Only the addition needs what the turn before worked out.
 // Kept: a place for each figure by its number, since of what is written through a zip with iter_mut a proof knows the length alone.
 pub fn store_growths<const UNIT: u64>(
@@ -40,8 +40,9 @@ pub fn store_growths<const UNIT: u64>(
 
 // Stores the figures of a range of a day's positions. A figure is the growth of the quotient of the sum so far: that is the
 // document's carry step.
-// Kept: yearly use and carry stand one by one, since the one is a whole call's and the other is handed on from range to range. Of the
-// bounds most join two of the arguments; a type for powers up to 40,000, at most 96, would be made here of slices that two callers cut.
+// Kept: yearly use and carry are two arguments, since the one is a whole call's and the other is handed on from range to range. A type for
+// a range's powers, at most 96 and each at most 40,000, would be made in two functions (`carry_day::carry_day` and `carry_day::ranges_of`)
+// and opened in three (here, in `carry_parts` and in `carry_total`), and each contract would still ask the bounds of use and carry.
 pub fn carry_by_quotients(powers: &[u32], yearly: u32, carry: u32, out: &mut [u32]) -> Carried
     requires small_powers { SmallPowers powers.now yearly carry }
     requires in_day { length powers.now ≤ 96 }

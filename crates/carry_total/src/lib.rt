@@ -1,6 +1,6 @@
-// Series and carry (document 01): what one day's powers come to, after the clock change, where no figure is stored. The
-// powers' sum times the yearly use, and the first carry, are 40,000 times the figures' sum, and the last carry: so the figures' sum is
-// one quotient, and the last carry its remainder.
+// Series and carry (document 01): the sum of one day's figures, and the carry that they leave, with no figure stored. The sum of the
+// day's powers, after the clock change, times the yearly use, plus the first carry, is 40,000 times the sum of the figures, plus the last
+// carry. That carry is below 40,000: so of a division by 40,000 the sum of the figures is the quotient, and the last carry the remainder.
 #![tactic(auto)]
 
 ghost use Rattle.std.specs.Prelude.{◌≡◌, ◌≤◌, length, sum};
@@ -19,7 +19,7 @@ fn sum_of(powers: &[u32]) -> u64
 }
 
 // The sum of the day's figures, and the carry that they leave.
-// Kept: arguments and bounds one by one, as of `carry_quotients::carry_by_quotients`.
+// Kept: arguments and bounds as in `carry_quotients::carry_by_quotients`, for the reason there.
 pub fn total_day(powers: [u32; 96], clock: Clock, yearly: u32, carry: u32) -> Carried
     requires { SmallPowers powers yearly carry }
     ensures { DayTotal powers clock yearly carry result }

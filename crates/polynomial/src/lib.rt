@@ -18,8 +18,9 @@ pub struct Coefficients {
 }
 
 // X of a day, in units of 10^-12: the signed sum.
-// Kept: t is a number with its bound beside it, here, in `dynamisation` and in `polynomial_horner`: these crates stand below the calendar,
-// whose `CalendarDay::day_of_year` has the bound, and a type of their own would be opened again in each of four short functions.
+// Kept: t is a number with its bound beside it, here, in `dynamisation` and in `polynomial_horner`: none of them uses the calendar, whose
+// `CalendarDay::day_of_year` promises the bound. A type for t would spare a clause in each of four functions; it would be made wherever a
+// factor is asked for and in `polynomial_horner::every_day_in_range`, and opened in two, here and in `polynomial_horner::day_in_range`.
 pub fn sum(c: Coefficients, t: u32) -> i64
     requires limited { Limited c }
     requires day { Day t }

@@ -19,7 +19,7 @@ use carry::Totals;
 pub use kinds::KindDays;
 
 // Stores one day's figures at the start of the output. A function of its own keeps its loops fast.
-// Kept: yearly use and carry, and their bounds, one by one, here and below, as of `carry_quotients::carry_by_quotients`; the use beside the
+// Kept: yearly use and carry as two arguments, for the reason at `carry_quotients::carry_by_quotients`, here and below; the use beside the
 // basis, which says what the quarter hours are, whatever is used in them; a day and its kind as the iterator gives them.
 #[inline(never)]
 fn expand_day(

@@ -15,7 +15,7 @@ use carry::Totals;
 use series::Basis;
 
 // What one day comes to.
-// Kept: yearly use and carry, and their bounds, one by one, here and below, as of `carry_quotients::carry_by_quotients`.
+// Kept: yearly use and carry as two arguments, for the reason at `carry_quotients::carry_by_quotients`, here and below.
 pub fn total_day(basis: &Basis, day: CalendarDay, kind: DayKind, yearly: u32, carry: u32) -> Totals
     requires own_kind { kind ≡ day_kind day basis.now.holidays }
     requires in_range { InRange yearly carry }

@@ -25,7 +25,8 @@ pub trait DayLine {
     ghost longest: { ℕ };
 
     // Puts the line of a day.
-    // Kept: what is asked of count and Wh is what the columns of a form hold, and no fact of a day that its type could have.
+    // Kept: the bounds of count and Wh are asked here and not held by `DayEntry`, since each form asks its own: the program's a count
+    // below 1,000 and any Wh, the page's what its two columns hold.
     fn put(entry: &DayEntry, page: &mut Page)
         requires count_bound { entry.now.count < 1_000 }
         requires watt_hours_bound { entry.now.watt_hours < 10 ^ 16 }

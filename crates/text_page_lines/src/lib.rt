@@ -15,7 +15,7 @@ use text_fields::{DayEntry, DayLine};
 // The length of a line.
 pub const LINE_LENGTH: usize = 38;
 
-// Puts what stands behind the day type: a space, the count, a space, the Wh and LF. (The count is a figure of the line.)
+// Puts the two numbers of a line, behind its day type: a space, the count, a space, the Wh and LF.
 fn put_amounts(count: usize, watt_hours: u64, page: &mut Page)
     requires count_bound { count < 10 ^ count_width }
     requires watt_hours_bound { watt_hours < 10 ^ watt_hours_width }
