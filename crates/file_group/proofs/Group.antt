@@ -1,15 +1,17 @@
 -- Where a wanted group stands: what it tells that it was found, and what its table holds. Assumes nothing.
 use Rattle.refusal.specs.Questions.{answered}
-use Rattle.std.specs.Prelude.{Result, Ok, Err}
+use Rattle.std.specs.Prelude.{Result, Ok, Err, Some}
+use Rattle.std.specs.List.{find, range_with_len}
+use Rattle.std.specs.Option.{MatchOption}
 use mathlib.Core.Path.{◌≡◌, refl, sym, ◌∙◌, ap}
 use mathlib.Core.Bool.{Bool, true, false, cond}
-use mathlib.Core.List.{List}
-use Prim.Native.Nat.{ℕ, zero, suc, ◌+◌, ◌-◌, ◌*◌, ◌/◌, ◌≤◌, ◌<◌}
+use mathlib.Core.List.{List, map}
+use Prim.Native.Nat.{ℕ, zero, suc, ◌+◌, ◌*◌, ◌/◌, ◌≤◌, ◌<◌}
 use native.Mathlib.Omega.{arith}
 use native.Mathlib.Nat.{suc-mul, mul-le-mul_right}
 use lib.Dec.{eqb}
 use lib.ListN.{length, get_or, length-take, length-drop}
-use borrow.Author.Tests.{eqb-true, eq-eqb, ne_eqb, ltb-true, lt-ltb, le-ltb}
+use borrow.Author.Tests.{eqb-true, ltb-true, lt-ltb, le-ltb}
 use Rattle.lists.proofs.Strides.{length-places, get_or-places}
 use Rattle.big_endian.specs.BigEndian.{byte_at, word_at}
 use Rattle.big_endian.specs.Inside.{words_of}
@@ -23,40 +25,44 @@ use Rattle.file_layout.specs.declared.Layout.{Layout}
 use Rattle.file_layout.specs.Header.{header_length, layout_of, profile_length}
 use Rattle.file_layout.specs.Inside.{LaidOut}
 use Rattle.file_check.specs.Check.{file_check}
-use Rattle.file_check.proofs.Check.{accepted, value-bound}
+use Rattle.file_check.proofs.Check.{accepted, profile_at, value-bound}
 use Rattle.file_group.specs.Group.{offset_among, group_offset, group_question, check, values_offset, table_of}
 use Rattle.file_layout.specs.Inside.{value_bytes}
 
--- k of the n codes from `at` on were searched, and none of them is the group's
-pub record Searched (layout : Layout) (file : List ℕ) (group n at k : ℕ) : Type 0 where
-  pub rest : offset_among layout file group (n - k) (at + k * profile_length layout) ≡ offset_among layout file group n at
+-- whether the code at a place is the group's
+abbrev pub is_groups : List ℕ → ℕ → ℕ → Bool
+is_groups file group at = eqb (byte_at file at) group
 
-module _ {layout : Layout} {file : List ℕ} {group n at : ℕ} where
-  module _ {k : ℕ} (search : Searched layout file group n at k) where
-    -- the code after them is the group's, or is not
-    pub found-here : k < n → byte_at file (at + k * profile_length layout) ≡ group →
-        at + k * profile_length layout ≡ offset_among layout file group n at
-    unfolding offset_among
-    found-here h e =
-        let more : n - k ≡ suc (n - (k + 1)) = omega arith in
-        let here = rw more at search.rest in
-        rw (eq-eqb _ _ e) at here
+-- the places of the n codes from the k-th on
+abbrev pub places : Layout → ℕ → ℕ → List ℕ
+places layout k n = map (profile_at layout) (range_with_len k n)
 
-    pub searched_more : k < n → (byte_at file (at + k * profile_length layout) ≡ group → ⊥) → Searched layout file group n at (k + 1)
-    unfolding offset_among
-    searched_more h e =
-        let more : n - k ≡ suc (n - (k + 1)) = omega arith in
-        let next : at + k * profile_length layout + profile_length layout ≡ at + (k + 1) * profile_length layout = omega arith in
-        let here = rw more at search.rest in
-        record { rest = rw (ne_eqb _ _ e, next) at here }
+-- the first of these places where the code is the group's is its offset among them, and its profile ends where they end or before;
+-- where none is, the offset is the place behind them
+pub found-among : (layout : Layout) (file : List ℕ) (group n k : ℕ) →
+    MatchOption (find (is_groups file group) (places layout k n))
+    (offset_among layout file group n (profile_at layout k) ≡ profile_at layout (k + n))
+    (λ at. (at ≡ offset_among layout file group n (profile_at layout k)) × (at + profile_length layout ≤ profile_at layout (k + n)))
+unfolding offset_among
+found-among layout file group zero k = omega arith
+found-among layout file group (suc n) k =
+    let next : profile_at layout k + profile_length layout ≡ profile_at layout (k + 1) = omega arith in
+    let last : profile_at layout (k + suc n) ≡ profile_at layout (k + 1 + n) = omega arith in
+    rw (next, last) (turn (is_groups file group (profile_at layout k)) (found-among layout file group n (k + 1)))
+  where
+    later : ℕ
+    later = offset_among layout file group n (profile_at layout (k + 1))
 
-    -- none is
-    pub searched_all : n ≤ k → k ≤ n → offset_among layout file group n at ≡ at + n * profile_length layout
-    unfolding offset_among
-    searched_all h l =
-        let none : n - k ≡ 0 = omega arith in
-        let all : k ≡ n = omega arith in
-        sym (rw (none, all) at search.rest)
+    turn : (b : Bool) →
+        MatchOption (find (is_groups file group) (places layout (k + 1) n)) (later ≡ profile_at layout (k + 1 + n))
+        (λ at. (at ≡ later) × (at + profile_length layout ≤ profile_at layout (k + 1 + n))) →
+        MatchOption (cond b (Some (profile_at layout k)) (find (is_groups file group) (places layout (k + 1) n)))
+        (cond b (profile_at layout k) later ≡ profile_at layout (k + 1 + n))
+        (λ at. (at ≡ cond b (profile_at layout k) later) × (at + profile_length layout ≤ profile_at layout (k + 1 + n)))
+    turn true found =
+        let whole = mul-le-mul_right {m = k + 1} {n = k + 1 + n} (profile_length layout) (omega arith) in
+        (refl, omega (arith, whole))
+    turn false found = found
 
 -- the group's code stands at `found`, which is the code of the k-th of n profiles from `at` on
 pub record Stands (layout : Layout) (file : List ℕ) (group n at found : ℕ) : Type 0 where

@@ -16,13 +16,10 @@ pub fn find(file: ProfileFile, group: u8, place: usize) -> Result<usize, Refusal
     ensures inside { IfOk result (λ at. at + profile_length (layout_of file.entry.bytes.now) ≤ length file.entry.bytes.now) }
 {
     let layout = file.layout();
-    for k in 0..layout.count {
-        let at = HEADER_LENGTH + k * layout.profile_length();
-        if file.bytes[at] == group {
-            return Ok(at);
-        }
-    }
-    Err(Refusal::NoGroup(place))
+    (0..layout.count)
+        .map(|k| HEADER_LENGTH + k * layout.profile_length())
+        .find(|at| file.bytes[*at] == group)
+        .ok_or(Refusal::NoGroup(place))
 }
 
 // Questions 1 to 6: where the group's code stands, in any file.

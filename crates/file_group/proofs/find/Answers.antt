@@ -1,58 +1,74 @@
 -- `file_group::find` meets its contract: a code that is found stands in the file, and where none is found the search ends at its end.
-use Rattle.std.proofs.Common.{◌≡◌, length, ap, ℕ, ◌+◌, ◌*◌, ◌≤◌, ◌<◌, List, Ok, Err, arith}
+use Rattle.std.proofs.Common.{◌≡◌, rules, sym, ◌∙◌, ap, length, ℕ, ◌+◌, ◌≤◌, ◌<◌, List, Option, Some, None, arith}
 use native.Mathlib.Nat.{mul-le-mul_right}
-use Rattle.big_endian.specs.BigEndian.{byte_at}
+use borrow.Author.Tests.{tests}
+use Rattle.std.specs.Prelude.{IfOk}
+use Rattle.std.specs.declared.ops.Range.{Range}
+use Rattle.std.specs.List.{find}
+use Rattle.std.specs.Option.{MatchOption, ok_or}
+use Rattle.std.proofs.lemmas.Iterator.{YieldsList-from_map, YieldsList-from_range}
+use Rattle.std.proofs.lemmas.Iterator.Adapters.{serves_from_places, option_map_id}
+use Rattle.std.proofs.lemmas.Iterator.Search.{find_from_yields_List}
+use Rattle.std.proofs.lemmas.List.FromFn.{length-map-range_with_len, get_or-map-range_with_len}
 use Rattle.refusal.specs.declared.Refusal.TheVariants.{NoGroup}
 use Rattle.refusal.specs.Questions.{answered}
 use Rattle.file_layout.specs.declared.Layout.{Layout}
 use Rattle.file_layout.specs.Header.{header_length, layout_of, profile_length}
 use Rattle.file_layout.specs.Inside.{LaidOut}
+use Rattle.file_check.proofs.Check.{profile_at}
 use Rattle.file_group.specs.Group.{group_offset, group_question}
-use Rattle.file_group.proofs.Group.{Searched, found-here, searched_more, searched_all, group-there, group-missing, answers_at, answers-refused}
+use Rattle.file_group.proofs.Group.{is_groups, places, found-among, group-there, group-missing, answers_at, answers-refused}
 use Rattle.file_group.proofs.find.Goals as goal
 
-module _ (file : List ℕ) (group place k : ℕ) (laid : LaidOut (layout_of file) file)
-    (search : Searched (layout_of file) file group (layout_of file).count header_length k) where
-  stands_here : k < (layout_of file).count → byte_at file (header_length + k * profile_length (layout_of file)) ≡ group →
-      Ok (header_length + k * profile_length (layout_of file)) ≡ answered (group_question file group place) (group_offset file group)
-  stands_here h code =
-      let found = found-here search h code in
-      let last = mul-le-mul_right {m = k + 1} {n = (layout_of file).count} (profile_length (layout_of file)) (omega arith) in
-      answers_at (group-there file group place (omega (arith, found, last, laid.whole, laid.sound.coded))) found
+-- each place that is searched lies in the file
+profile-inside : (layout : Layout) (file : List ℕ) → LaidOut layout file → (k : ℕ) → k < layout.count → profile_at layout k < length file
+profile-inside layout file laid k h =
+    let last = mul-le-mul_right {m = k + 1} {n = layout.count} (profile_length layout) (omega arith) in
+    omega (arith, last, laid.whole, laid.sound.coded)
 
-  inside : k < (layout_of file).count → header_length + k * profile_length (layout_of file) + profile_length (layout_of file) ≤ length file
-  inside h =
-      let last = mul-le-mul_right {m = k + 1} {n = (layout_of file).count} (profile_length (layout_of file)) (omega arith) in
-      omega (arith, last, laid.whole)
+pub find-requires-clause-callable : goal.find-requires-clause-callable
+find-requires-clause-callable c =
+    let layout = c.layout-layout.result in
+    let laid = rw (← c.layout-layout.ensures.0) at c.args.file.laid in
+    let n = c.map.result.iter.end in
+    let few : n ≤ layout.count = omega (arith, ap (λ (ks : Range ℕ). ks.end) c.map.ensures.source) in
+    serves_from_places
+    (YieldsList-from_map _ (profile_at layout) (YieldsList-from_range 0 n n (rw c.map.ensures.source) (omega arith)) c.map.ensures.closure (λ x r q k. search rules))
+    (λ x q r. search (rules, tests))
+    (λ x k h e.
+    let below : k < n = omega (arith, length-map-range_with_len (profile_at layout) 0 n) in
+    let here : x ≡ profile_at layout k = e ∙ get_or-map-range_with_len (profile_at layout) 0 n k k x below (omega arith) in
+    let inside = profile-inside layout c.args.file.bytes.now laid k (omega arith) in
+    λ y ey. omega (arith, inside, here, ey))
 
-  missing : (layout_of file).count ≤ k → k ≤ (layout_of file).count →
-      Err (NoGroup place) ≡ answered (group_question file group place) (group_offset file group)
-  missing h l = answers-refused _ (group-missing file group place (omega (arith, searched_all search h l, laid.whole)))
+-- what the search comes to, of all places in the file
+module _ (file : List ℕ) (group place : ℕ) (laid : LaidOut (layout_of file) file) where
+  answered_of : (o : Option ℕ) →
+      MatchOption o (group_offset file group ≡ length file)
+      (λ at. (at ≡ group_offset file group) × (at + profile_length (layout_of file) ≤ length file)) →
+      (ok_or o (NoGroup place) ≡ answered (group_question file group place) (group_offset file group))
+      × IfOk (ok_or o (NoGroup place)) (λ at. at + profile_length (layout_of file) ≤ length file)
+  answered_of None missing = (answers-refused _ (group-missing file group place (omega arith)), tt)
+  answered_of (Some at) found =
+      (answers_at (group-there file group place (omega (arith, found.0, found.1, laid.sound.coded))) found.0, found.1)
 
-pub returns-then-file-at : goal.returns-then-file-at
-returns-then-file-at c =
-    let a = c.args in
-    let l = c.loop-k in
-    let code = rw (c.profile_length.ensures, c.layout-layout.ensures.0) at c.if-file-at.true in
-    let search = rw c.layout-layout.ensures.0 at l.invariant in
-    let count = ap (λ (layout : Layout). layout.count) c.layout-layout.ensures.0 in
-    rw (c.profile_length.ensures, c.layout-layout.ensures.0)
-    (record {
-      value = stands_here a.file.bytes.now a.group a.place l.k a.file.laid search (omega (arith, count)) code;
-      inside = inside a.file.bytes.now a.group a.place l.k a.file.laid search (omega (arith, count));
-    })
-
-pub loop-k-preserved : goal.loop-k-preserved
-loop-k-preserved c =
-    let code = rw c.profile_length.ensures at c.if-file-at.false in
-    searched_more c.loop-k.invariant (omega arith) code
+  searched : (o : Option ℕ) → o ≡ find (is_groups file group) (places (layout_of file) 0 (layout_of file).count) →
+      (ok_or o (NoGroup place) ≡ answered (group_question file group place) (group_offset file group))
+      × IfOk (ok_or o (NoGroup place)) (λ at. at + profile_length (layout_of file) ≤ length file)
+  searched o e =
+      let first : profile_at (layout_of file) 0 ≡ header_length = omega arith in
+      let end : profile_at (layout_of file) (0 + (layout_of file).count) ≡ length file = omega (arith, laid.whole) in
+      answered_of o (rw (e) (rw (first, end) at (found-among (layout_of file) file group (layout_of file).count 0)))
 
 pub returns : goal.returns
 returns c =
     let a = c.args in
-    let search = rw c.layout-layout.ensures.0 at c.loop-k.invariant in
-    let count = ap (λ (layout : Layout). layout.count) c.layout-layout.ensures.0 in
-    record {
-      value = missing a.file.bytes.now a.group a.place c.loop-k.k a.file.laid search (omega (arith, count)) (omega (arith, count));
-      inside = tt;
-    }
+    let layout = c.layout-layout.result in
+    let n = c.map.result.iter.end in
+    let all : n ≡ layout.count = omega (arith, ap (λ (ks : Range ℕ). ks.end) c.map.ensures.source) in
+    let found = find_from_yields_List (is_groups a.file.bytes.now a.group) _ _ c.find.result c.find.ensures.ran
+    (YieldsList-from_map _ (profile_at layout) (YieldsList-from_range 0 n n (rw c.map.ensures.source) (omega arith)) c.map.ensures.closure (λ x r q k. search rules))
+    (λ x b q k. search (rules, tests)) in
+    let found = rw (all, c.layout-layout.ensures.0) at found in
+    let told = searched a.file.bytes.now a.group a.place a.file.laid c.find.result (sym (option_map_id c.find.result) ∙ found) in
+    rw c.ok_or.ensures.value (record { value = told.0; inside = told.1 })
