@@ -3,6 +3,9 @@
 use mathlib.Core.Path.{◌≡◌}
 use mathlib.Core.List.{List}
 use Prim.Native.Nat.{ℕ, ◌+◌, ◌*◌, ◌≤◌, ◌<◌}
+use native.Mathlib.Omega.{arith}
+use native.Mathlib.Nat.{mul-le-mul_right}
+use lib.ListN.{length}
 use borrow.Author.Tests.{leb-true}
 use Rattle.big_endian.specs.BigEndian.{word_at}
 use Rattle.refusal.specs.Questions.{Pass}
@@ -10,6 +13,7 @@ use Rattle.refusal.specs.declared.Refusal.TheVariants.{BadValue}
 use Rattle.refusal.proofs.Questions.{ask-passed, then-first, then_next, each-passed}
 use Rattle.file_layout.specs.declared.Layout.{Layout}
 use Rattle.file_layout.specs.Header.{header_length, layout_of, profile_length, header_check}
+use Rattle.file_layout.specs.Inside.{LaidOut}
 use Rattle.file_layout.proofs.Header.{Headed, headed}
 use Rattle.file_values.specs.Values.{value_question, profile_values_question, values_question}
 use Rattle.file_check.specs.Check.{codes_question, file_check}
@@ -33,6 +37,12 @@ accepted file h =
 -- the offset of the k-th profile, counted from 0
 abbrev pub profile_at : Layout → ℕ → ℕ
 profile_at layout k = header_length + k * profile_length layout
+
+-- its code stands in the file
+pub profile-inside : (layout : Layout) (file : List ℕ) → LaidOut layout file → (k : ℕ) → k < layout.count → profile_at layout k < length file
+profile-inside layout file laid k h =
+    let last = mul-le-mul_right {m = k + 1} {n = layout.count} (profile_length layout) (omega arith) in
+    omega (arith, last, laid.whole, laid.sound.coded)
 
 -- every value is at most 20,000
 pub value-bound : (file : List ℕ) → Accepted file → (k i : ℕ) → k < (layout_of file).count → i < (layout_of file).entries →

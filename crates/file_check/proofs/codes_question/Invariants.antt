@@ -1,11 +1,14 @@
--- What each turn of the loop keeps: the codes that were asked passed, and the last of them is at hand.
-use Rattle.std.proofs.Common.{◌≡◌}
-use Rattle.refusal.proofs.Questions.{Asked}
-use Rattle.file_layout.specs.Header.{header_length, profile_length}
-use Rattle.file_check.specs.Check.{code_question}
-use Rattle.file_check.proofs.Asked.{code_before}
+-- What each turn of the loop keeps: the codes that are left to ask come to the answer, and there are few of them.
+use Rattle.std.proofs.Common.{◌+◌, ◌*◌, ◌≤◌, ℕ, List, None}
+use Rattle.std.specs.Iterator.{AlwaysYields, IsFinite, size}
+use Rattle.std.specs.Iterator.Adapters.{enumerate_source, enumerate_count}
+use Rattle.file_check.specs.Inside.{codes_asked}
+use Rattle.file_check.proofs.Asked.{CodesLeft}
 use Rattle.file_check.proofs.codes_question.Given as goal
 
 abbrev pub invariant-loop-k : goal.invariant-loop-k
-invariant-loop-k l = Asked (code_question l.layout l.file.bytes.now) (profile_length l.layout) l.layout.count header_length l.k
-    × (l.before ≡ code_before l.layout l.file.bytes.now l.k)
+invariant-loop-k g l =
+    (IsFinite (g.I.Iterator.remaining (enumerate_source l.k-iterator))
+    × (enumerate_count l.k-iterator + size (g.I.Iterator.remaining (enumerate_source l.k-iterator)) ≤ 255))
+    × ((all : List ℕ) → AlwaysYields g.I.Iterator.next_gives (λ code. code) l.fn.codes all →
+    CodesLeft g.I.Iterator.next_gives l.apart (codes_asked l.apart None 6 all) (enumerate_source l.k-iterator) l.before (6 + enumerate_count l.k-iterator * l.apart))
