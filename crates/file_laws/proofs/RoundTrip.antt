@@ -25,7 +25,8 @@ use Rattle.file_group.proofs.Group.{group-there}
 use Rattle.file_written.specs.Written.{profiles_of, written}
 use Rattle.file_written.proofs.Written.{length-written, code_at, table_at}
 use Rattle.file_write_check.specs.WriteCheck.{write_check}
-use Rattle.file_write_check.proofs.Passed.{Amounts, amount-passes, Writable, writable}
+use Rattle.file_write_check.specs.Inside.{Amounts}
+use Rattle.file_write_check.proofs.Passed.{amount-passes, Writable, writable}
 use Rattle.file_laws.specs.RoundTrip.{Below, codes_from, values_from, codes_of, values_of, WrittenReadsBack, AcceptedIsRewritten}
 use Rattle.file_laws.proofs.Codes.{finds}
 

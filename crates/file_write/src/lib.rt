@@ -1,7 +1,7 @@
 // Writing a profile file (document 01, "The profile file"): codes and values into a lent buffer.
 #![tactic(auto)]
 
-ghost use Rattle.std.specs.Prelude.{◌≡◌, [], ◌∷◌, ◌++◌, ◌+◌, ◌*◌, ◌≤◌, ◌<◌, length};
+ghost use Rattle.std.specs.Prelude.{◌≡◌, [], ◌∷◌, ◌++◌, ◌+◌, ◌*◌, ◌≤◌, length};
 ghost use Rattle.std.proofs.lemmas.List.Edits.{sets};
 ghost use Rattle.big_endian.specs.BigEndian.{bytes_of};
 ghost use Rattle.refusal.specs.Questions.{reported};
@@ -11,17 +11,17 @@ ghost use Rattle.file_write_check.specs.WriteCheck.{write_check};
 ghost use Rattle.file_write.specs.Buffer.{buffer_after};
 
 use file_layout::{HEADER_LENGTH, MARK, PROFILE_LENGTH, PROFILE_VALUES, VERSION};
+use file_write_check::Profiles;
 use refusal::Refusal;
 
 // Mark, version and count.
-// Kept: a count, since it is what is written; the buffer has the length of its room, and not that of a list of profiles.
-fn put_header(count: usize, buffer: &mut [u8])
-    requires { (count < 256) × (6 ≤ length buffer.old) }
-    ensures { buffer.new ≡ sets buffer.old 0 (mark ++ (bytes_of (1 ∷ []) ++ (count ∷ []))) }
+fn put_header(profiles: Profiles, buffer: &mut [u8])
+    requires { 6 ≤ length buffer.old }
+    ensures { buffer.new ≡ sets buffer.old 0 (mark ++ (bytes_of (1 ∷ []) ++ (length profiles.entry.codes.now ∷ []))) }
 {
     buffer[..3].copy_from_slice(&MARK);
     big_endian::put_word(VERSION, buffer, 3);
-    buffer[5] = count as u8;
+    buffer[5] = profiles.codes.len() as u8;
 }
 
 // A profile's values, into a part that has just their bytes.
@@ -36,18 +36,15 @@ fn put_values(values: &[u16], part: &mut [u8])
 }
 
 // The profiles, after the header.
-fn put_profiles(codes: &[u8], values: &[u16], buffer: &mut [u8])
-    requires { (length values.now ≡ length codes.now * 864) × (6 + length codes.now * 1729 ≤ length buffer.old) }
-    ensures { buffer.new ≡ sets buffer.old 6 (profiles_of 864 codes.now values.now) }
+fn put_profiles(profiles: Profiles, buffer: &mut [u8])
+    requires { 6 + length profiles.codes.now * 1729 ≤ length buffer.old }
+    ensures { buffer.new ≡ sets buffer.old 6 (profiles_of 864 profiles.entry.codes.now profiles.entry.values.now) }
 {
-    for (i, code) in codes.iter().enumerate() {
+    let parts = profiles.values.chunks_exact(PROFILE_VALUES);
+    for (i, (code, part)) in profiles.codes.iter().zip(parts).enumerate() {
         let at = HEADER_LENGTH + i * PROFILE_LENGTH;
-        let from = i * PROFILE_VALUES;
         buffer[at] = *code;
-        put_values(
-            &values[from..from + PROFILE_VALUES],
-            &mut buffer[at + 1..at + PROFILE_LENGTH],
-        );
+        put_values(part, &mut buffer[at + 1..at + PROFILE_LENGTH]);
     }
 }
 
@@ -58,8 +55,8 @@ pub fn write(codes: &[u8], values: &[u16], buffer: &mut [u8]) -> Result<(), Refu
     ensures result_value { reported result ≡ reported (write_check codes.now values.now (length buffer.old)) }
     ensures buffer_after { buffer.new ≡ buffer_after codes.now values.now buffer.old }
 {
-    file_write_check::write_check(codes, values, buffer.len())?;
-    put_header(codes.len(), buffer);
-    put_profiles(codes, values, buffer);
+    let profiles = file_write_check::check_profiles(codes, values, buffer.len())?;
+    put_header(profiles, buffer);
+    put_profiles(profiles, buffer);
     Ok(())
 }

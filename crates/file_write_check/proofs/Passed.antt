@@ -2,7 +2,7 @@
 -- Assumes nothing.
 use mathlib.Core.Path.{◌≡◌}
 use mathlib.Core.List.{List}
-use Prim.Native.Nat.{ℕ, ◌*◌, ◌≤◌}
+use Prim.Native.Nat.{ℕ, ◌≤◌}
 use lib.ListN.{length}
 use borrow.Author.Tests.{leb-true, eqb-true, le-leb, eq-eqb}
 use Rattle.refusal.specs.declared.Refusal.TheVariants.{WrongLength}
@@ -12,14 +12,10 @@ use Rattle.file_layout.specs.Header.{layout_of}
 use Rattle.file_values.specs.Values.{values_question}
 use Rattle.file_check.specs.Check.{codes_question}
 use Rattle.file_written.specs.Written.{written}
+use Rattle.file_write_check.specs.Inside.{Amounts}
 use Rattle.file_write_check.specs.WriteCheck.{amount_question, write_check}
 
 -- question 3 passed
-pub record Amounts (codes values : List ℕ) : Type 0 where
-  pub some : 1 ≤ length codes
-  pub most : length codes ≤ 11
-  pub each : length values ≡ length codes * 864
-
 pub amounts : (codes values : List ℕ) → amount_question codes values ≡ Pass → Amounts codes values
 unfolding amount_question
 amounts codes values h =

@@ -1,1 +1,2 @@
 pub mod WriteCheck
+pub mod Inside

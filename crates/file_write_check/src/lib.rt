@@ -2,60 +2,49 @@
 // values, and shown to be the reader's questions of the file to be written.
 #![tactic(auto)]
 
-ghost use Rattle.std.specs.Prelude.{◌≡◌, List, ℕ, ◌+◌, ◌*◌, ◌≤◌, length};
+mod profiles;
+
+ghost use Rattle.std.specs.Prelude.{◌≡◌, Err, MatchResult};
+ghost use Rattle.refusal.specs.Questions.{Pass};
 ghost use Rattle.file_layout.specs.Header.{layout_of};
 ghost use Rattle.file_check.specs.Check.{codes_question};
 ghost use Rattle.file_written.specs.Written.{written};
-ghost use Rattle.file_write_check.specs.WriteCheck.{amount_question, write_check};
+ghost use Rattle.file_write_check.specs.WriteCheck.{write_check};
 
-use file_layout::{HEADER_LENGTH, MOST_PROFILES, PROFILE_LENGTH, PROFILE_VALUES};
+use file_layout::PROFILE_LENGTH;
+pub use profiles::Profiles;
 use refusal::Refusal;
 
-// Question 3.
-#[tactic(auto, unfolding(crate::specs::WriteCheck::amount_question))]
-fn amount_question(codes: &[u8], values: &[u16]) -> Result<(), Refusal>
-    ensures { result ≡ amount_question codes.now values.now }
+// Question 4, of the file to be written.
+fn codes_question(profiles: Profiles) -> Result<(), Refusal>
+    ensures { result ≡ codes_question (layout_of (written profiles.entry.codes.now profiles.entry.values.now)) (written profiles.entry.codes.now profiles.entry.values.now) }
 {
-    if codes.is_empty()
-        || MOST_PROFILES < codes.len()
-        || values.len() != codes.len() * PROFILE_VALUES
-    {
-        return Err(Refusal::WrongLength);
-    }
-    Ok(())
+    file_check::codes_question(profiles.codes.iter().copied(), PROFILE_LENGTH)
 }
 
-// Question 4, of the file to be written, whatever its values are.
-fn codes_question(codes: &[u8]) -> Result<(), Refusal>
-    requires { length codes.now ≤ 11 }
-    ensures { (values : List ℕ) → length values ≡ length codes.now * 864 →
-        result ≡ codes_question (layout_of (written codes.now values)) (written codes.now values) }
-{
-    let mut before = None;
-    for (i, code) in codes.iter().enumerate() {
-        file_check::code_question(before, *code, HEADER_LENGTH + i * PROFILE_LENGTH)?;
-        before = Some(*code);
-    }
-    Ok(())
-}
-
-// The bytes of a file of `count` profiles.
-// Kept: a count, since the bytes follow from that number alone, and no buffer of that length is at hand.
-fn bytes_needed(count: usize) -> usize
-    requires { count ≤ 11 }
-    ensures { result ≡ 6 + count * 1729 }
-{
-    HEADER_LENGTH + count * PROFILE_LENGTH
-}
-
-// All of writing's questions.
-// Kept: codes and values apart, as they come one by one over the C interface.
+// All of writing's questions, and what is to be written where they passed.
 #[tactic(auto, unfolding(crate::specs::WriteCheck::write_check))]
+pub fn check_profiles<'a>(
+    codes: &'a [u8],
+    values: &'a [u16],
+    room: usize,
+) -> Result<Profiles<'a>, Refusal>
+    ensures { MatchResult result
+        (λ profiles. (write_check codes.now values.now room ≡ Pass) × (profiles.codes ≡ codes.entry) × (profiles.values ≡ values.entry))
+        (λ refusal. write_check codes.now values.now room ≡ Err refusal) }
+{
+    let profiles = Profiles::new(codes, values)?;
+    codes_question(profiles)?;
+    file_write_values::values_question(profiles.values)?;
+    refusal::room_question(profiles.file_length(), room)?;
+    Ok(profiles)
+}
+
+// The same without what is to be written.
+// Kept: codes and values apart, here and above, as they come one by one over the C interface.
 pub fn write_check(codes: &[u8], values: &[u16], room: usize) -> Result<(), Refusal>
     ensures { result ≡ write_check codes.now values.now room }
 {
-    amount_question(codes, values)?;
-    codes_question(codes)?;
-    file_write_values::values_question(values, codes.len())?;
-    refusal::room_question(bytes_needed(codes.len()), room)
+    check_profiles(codes, values, room)?;
+    Ok(())
 }

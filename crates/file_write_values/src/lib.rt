@@ -37,14 +37,12 @@ fn profile_values_question(values: &[u16], at: usize) -> Result<(), Refusal>
 }
 
 // Question 5, of the file to be written, whatever its codes are.
-pub fn values_question(values: &[u16], count: usize) -> Result<(), Refusal>
-    requires { (count ≤ 11) × (length values.now ≡ count * 864) }
-    ensures { (codes : List ℕ) → length codes ≡ count →
+pub fn values_question(values: &[u16]) -> Result<(), Refusal>
+    requires { length values.now ≤ 9504 }
+    ensures { (codes : List ℕ) → length values.now ≡ length codes * 864 →
         result ≡ values_question (layout_of (written codes values.now)) (written codes values.now) }
 {
-    for k in 0..count {
-        let from = k * PROFILE_VALUES;
-        let part = &values[from..from + PROFILE_VALUES];
+    for (k, part) in values.chunks_exact(PROFILE_VALUES).enumerate() {
         profile_values_question(part, HEADER_LENGTH + k * PROFILE_LENGTH + 1)?;
     }
     Ok(())

@@ -1,26 +1,32 @@
 -- `file_write::put_profiles` meets its contract: each profile stands behind those before it, its code and then its values.
-use Rattle.std.proofs.Common.{◌≡◌, ◌+◌, ◌-◌, ◌*◌, length, get_or, arith, refl}
+use Rattle.std.proofs.Common.{◌≡◌, ◌+◌, ◌-◌, ◌*◌, length, arith, refl, rules}
 use lib.ListN.{set, length-set}
-use Rattle.lists.proofs.Stores.{some_stored, one-stored, all-stored, part-stored}
-use Rattle.file_write.proofs.Buffer.{lent_bytes, profiles-next, profile-bytes, profiles-done}
+use Rattle.lists.proofs.Stores.{nothing_stored, some_stored, one-stored, all-stored, part-stored}
+use Rattle.file_write.proofs.Buffer.{codes_left, values_left, pairs-begin, pair_given, pairs-end}
+use Rattle.big_endian.specs.BigEndian.{bytes_of}
+use Rattle.std.specs.Iterator.Adapters.{enumerate_count}
 use Rattle.file_write.proofs.put_profiles.Goals as goal
+
+pub loop-i-init : goal.loop-i-init
+loop-i-init c =
+    let pairs = c.into_iter-i-iterator.result in
+    let codes : codes_left pairs ≡ c.args.profiles.codes.now = search rules in
+    let values : values_left pairs ≡ c.args.profiles.values.now = search rules in
+    let none : enumerate_count pairs ≡ 0 = search rules in
+    (pairs-begin pairs _ _ (search rules) codes values none c.args.profiles.amounts.each, rw (codes, values, none) nothing_stored)
 
 pub loop-i-preserved : goal.loop-i-preserved
 loop-i-preserved c =
-    let i = c.loop-i.i in
-    let codes = c.args.codes.now in
-    let values = c.args.values.now in
-    let from = i * 864 in
+    let i = c.in-Some.i in
+    let turn = pair_given c.next.new.self c.loop-i.invariant.0 i c.in-Some.code c.in-Some.part c.in-Some.ensures.steps in
     let at = 6 + i * 1729 in
-    let coded = one-stored c.loop-i.invariant (profiles-next 864 codes values i from (omega arith)) refl in
-    let own = lent_bytes 864 values from in
-    let full = profile-bytes 864 codes values i from (omega arith) in
-    let next : (i + 1) * 864 ≡ from + 864 = omega arith in
-    let size : length own ≡ at + 1729 - (at + 1) = omega arith in
-    let memory = set c.loop-i.buffer at (get_or codes i 0) in
+    let coded = one-stored (rw (← turn.counted) at c.loop-i.invariant.1) turn.profile refl in
+    let own = bytes_of c.in-Some.part.now in
+    let size : length own ≡ at + 1729 - (at + 1) = omega (arith, turn.full) in
+    let memory = set c.loop-i.buffer at c.in-Some.code.now in
     let put = part-stored memory c.put_values.new.part own (at + 1) (at + 1729 - (at + 1)) c.put_values.ensures size
-    (omega (arith, length-set c.loop-i.buffer at (get_or codes i 0))) in
-    rw next (some_stored coded own refl put (omega arith))
+    (omega (arith, turn.below, length-set c.loop-i.buffer at c.in-Some.code.now)) in
+    (turn.paired, rw turn.next_counted (some_stored coded own refl put (omega (arith, turn.full))))
 
 pub returns : goal.returns
-returns c = all-stored c.loop-i.invariant (profiles-done 864 _ _ c.loop-i.i (c.loop-i.i * 864) (omega arith))
+returns c = all-stored c.loop-i.invariant.1 (pairs-end c.next.new.self c.loop-i.invariant.0 c.in-None.ensures.steps)

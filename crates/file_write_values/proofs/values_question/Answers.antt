@@ -1,24 +1,38 @@
 -- `file_write_values::values_question` meets its contract: what is asked of a part is its profile's question in the file.
-use Rattle.std.proofs.Common.{◌∙◌, ◌*◌, arith, rules}
+use Rattle.std.proofs.Common.{◌∙◌, ◌≡◌, arith, rules}
+use Rattle.std.specs.Iterator.Adapters.{enumerate_count}
 use Rattle.refusal.proofs.Questions.{asked-refuses, asked_more, asked_all}
-use Rattle.file_written.proofs.Written.{part_of}
-use Rattle.file_write_values.proofs.Values.{values-each, part-asked}
+use Rattle.file_write_values.proofs.Values.{values-each, part-asked, parts-begin, part_given, parts_end}
 use Rattle.file_write_values.proofs.values_question.Goals as goal
 
+pub loop-k-init : goal.loop-k-init
+loop-k-init c =
+    let none : enumerate_count c.into_iter-k-iterator.result ≡ 0 = search rules in
+    (parts-begin (search rules) (search rules) none, λ codes each. rw none (search rules))
+
 pub returns-in_err-profile_values_question : goal.returns-in_err-profile_values_question
-returns-in_err-profile_values_question c codes counted =
-    let k = c.loop-k.k in
+returns-in_err-profile_values_question c codes each =
     let values = c.args.values.now in
-    let asked = part-asked codes values (omega arith) k (omega arith) _ (part_of (k * 864) 864 values) c.profile_values_question.ensures in
-    asked-refuses (c.loop-k.invariant codes counted) (omega arith) asked c.in_err-profile_values_question.was (search rules)
-    ∙ rw (← counted) (values-each codes values)
+    let k = c.in-Some.k in
+    let turn = part_given {next = c.next.new.self} c.loop-k.invariant.0 k c.in-Some.part c.in-Some.ensures.steps in
+    let asked = part-asked codes values each k (omega (arith, turn.1.inside)) c.in-Some.part.now turn.1.own c.profile_values_question.ensures in
+    let loop = rw (← turn.0) at (c.loop-k.invariant.1 codes each) in
+    asked-refuses loop (omega (arith, turn.1.inside)) asked c.in_err-profile_values_question.was (search rules) ∙ values-each codes values
 
 pub loop-k-preserved : goal.loop-k-preserved
-loop-k-preserved c codes counted =
-    let k = c.loop-k.k in
+loop-k-preserved c =
     let values = c.args.values.now in
-    let asked = part-asked codes values (omega arith) k (omega arith) _ (part_of (k * 864) 864 values) c.profile_values_question.ensures in
-    asked_more (c.loop-k.invariant codes counted) (omega arith) asked c.in_ok-profile_values_question.was
+    let k = c.in-Some.k in
+    let turn = part_given {next = c.next.new.self} c.loop-k.invariant.0 k c.in-Some.part c.in-Some.ensures.steps in (
+      turn.1.left,
+      λ codes each.
+          let asked = part-asked codes values each k (omega (arith, turn.1.inside)) c.in-Some.part.now turn.1.own c.profile_values_question.ensures in
+          let loop = rw (← turn.0) at (c.loop-k.invariant.1 codes each) in
+          rw (turn.1.counted) (asked_more loop (omega (arith, turn.1.inside)) asked c.in_ok-profile_values_question.was),
+    )
 
 pub returns : goal.returns
-returns c codes counted = asked_all (c.loop-k.invariant codes counted) (omega arith) ∙ rw (← counted) (values-each codes c.args.values.now)
+returns c codes each =
+    let values = c.args.values.now in
+    let end = parts_end {next = c.next.new.self} c.loop-k.invariant.0 c.in-None.ensures.steps in
+    asked_all (c.loop-k.invariant.1 codes each) (omega (arith, end)) ∙ values-each codes values
