@@ -23,6 +23,7 @@ pub struct ComparisonReport {
 }
 
 // Alike exactly when all values of the two groups agree.
+// Kept: file and groups apart, as they come one by one over the C interface.
 #[tactic(auto, unfolding(crate::specs::Comparing::comparison))]
 pub fn compare(bytes: &[u8], first: u8, second: u8) -> Result<Likeness, Refusal>
     ensures value { result ≡ comparison bytes.now first second }

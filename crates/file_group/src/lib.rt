@@ -10,7 +10,7 @@ use file_layout::{HEADER_LENGTH, ProfileFile};
 use refusal::Refusal;
 
 // Question 6: where the group's code stands. A refusal names `place`.
-// Kept: a place in the file and no part of it, since locating hands it on to C as an offset; so it is in all that is found by this.
+// Kept: a place in the file and no part of it, since locating hands it on to C as an offset.
 pub fn find(file: ProfileFile, group: u8, place: usize) -> Result<usize, Refusal>
     ensures value { result ≡ answered (group_question file.entry.bytes.now group place) (group_offset file.entry.bytes.now group) }
     ensures inside { IfOk result (λ at. at + profile_length (layout_of file.entry.bytes.now) ≤ length file.entry.bytes.now) }
@@ -23,7 +23,7 @@ pub fn find(file: ProfileFile, group: u8, place: usize) -> Result<usize, Refusal
 }
 
 // Questions 1 to 6: where the group's code stands, in any file.
-// Kept: file and group apart: a struct of the two would be made for this call alone by each of its callers, which C gives them apart.
+// Kept: file and group apart: each of its callers has them one by one, and a struct of the two would be made for this call alone.
 pub fn find_checked(file: &[u8], group: u8) -> Result<usize, Refusal>
     ensures value { result ≡ answered (check file.now group) (group_offset file.now group) }
     ensures inside { IfOk result (λ at. at + profile_length (layout_of file.now) ≤ length file.now) }
