@@ -3,7 +3,7 @@ ghost use Rattle.std.specs.Prelude.{◌≡◌, ◌+◌, ◌*◌, ◌≤◌, ◌<
 ghost use Rattle.big_endian.specs.BigEndian.{longs_from};
 ghost use Rattle.refusal.specs.Questions.{answered};
 ghost use Rattle.program_input.specs.Input.{head_length, list_length, file_start, input_question};
-ghost use Rattle.program_input.specs.Inside.{head_of, asked_entries};
+ghost use Rattle.program_input.specs.Inside.{head_of, asked_entries, CompleteInput};
 
 use crate::{HEAD_LENGTH, LIST_ROOM, LONGEST_INPUT};
 use arrayvec::ArrayVec;
@@ -68,14 +68,24 @@ impl<'a> Input<'a> {
     pub fn new(bytes: &'a [u8]) -> Result<Input<'a>, Refusal>
         ensures { result ≡ answered (input_question bytes.now) bytes.now }
     {
-        if LONGEST_INPUT < bytes.len() || bytes.len() < HEAD_LENGTH {
+        if LONGEST_INPUT < bytes.len()
+            || bytes.len() < HEAD_LENGTH
+            || bytes.len() < Head::of(bytes).file_start()
+        {
             return Err(Refusal::BadInput);
         }
-        let head = Head::of(bytes);
-        if bytes.len() < head.file_start() {
-            return Err(Refusal::BadInput);
+        Ok(Input::of_complete(bytes))
+    }
+
+    // The input of bytes that are known to pass question 13, which is not asked.
+    pub fn of_complete(bytes: &'a [u8]) -> Input<'a>
+        requires { CompleteInput bytes.now }
+        ensures { result ≡ bytes.now }
+    {
+        Input {
+            bytes,
+            head: Head::of(bytes),
         }
-        Ok(Input { bytes, head })
     }
 
     pub fn head(&self) -> Head
