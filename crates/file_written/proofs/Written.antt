@@ -3,7 +3,7 @@
 -- Assumes nothing.
 use mathlib.Core.Path.{◌≡◌, refl, sym, ◌∙◌, ap}
 use mathlib.Core.List.{List, [], ◌∷◌, ◌++◌}
-use Prim.Native.Nat.{ℕ, zero, suc, ◌+◌, ◌-◌, ◌*◌, ◌/◌, ◌%◌, ◌≤◌, ◌<◌}
+use Prim.Native.Nat.{ℕ, zero, suc, ◌+◌, ◌*◌, ◌/◌, ◌%◌, ◌≤◌, ◌<◌}
 use native.Mathlib.Nat.{add-zero, zero-mul, suc-mul}
 use native.Mathlib.Omega.{arith}
 use native.Mathlib.Numerals.{one-add}
@@ -21,10 +21,6 @@ byte-here file at e = ap (λ (k : ℕ). byte_at file k) (sym (add-zero at)) ∙ 
 
 pub from-there : (file : List ℕ) (at k : ℕ) {rest : List ℕ} → drop at file ≡ rest → drop (at + k) file ≡ drop k rest
 from-there file at k e = sym (drop-drop k at file) ∙ ap (λ (l : List ℕ). drop k l) e
-
--- the part of a list that is lent as `from..from + n`
-pub part_of : (from n : ℕ) (xs : List ℕ) → take (from + n - from) (drop from xs) ≡ take n (drop from xs)
-part_of from n xs = let same : from + n - from ≡ n = omega arith in rw same
 
 pub length-bytes : (values : List ℕ) → length (bytes_of values) ≡ length values * 2
 unfolding bytes_of

@@ -1,6 +1,5 @@
 -- `file_group::find` meets its contract: a code that is found stands in the file, and where none is found the search ends at its end.
 use Rattle.std.proofs.Common.{◌≡◌, rules, sym, ◌∙◌, ap, length, ℕ, ◌+◌, ◌≤◌, ◌<◌, List, Option, Some, None, arith}
-use native.Mathlib.Nat.{mul-le-mul_right}
 use borrow.Author.Tests.{tests}
 use Rattle.std.specs.Prelude.{IfOk}
 use Rattle.std.specs.declared.ops.Range.{Range}
@@ -12,19 +11,12 @@ use Rattle.std.proofs.lemmas.Iterator.Search.{find_from_yields_List}
 use Rattle.std.proofs.lemmas.List.FromFn.{length-map-range_with_len, get_or-map-range_with_len}
 use Rattle.refusal.specs.declared.Refusal.TheVariants.{NoGroup}
 use Rattle.refusal.specs.Questions.{answered}
-use Rattle.file_layout.specs.declared.Layout.{Layout}
 use Rattle.file_layout.specs.Header.{header_length, layout_of, profile_length}
 use Rattle.file_layout.specs.Inside.{LaidOut}
-use Rattle.file_check.proofs.Check.{profile_at}
+use Rattle.file_check.proofs.Check.{profile_at, profile-inside}
 use Rattle.file_group.specs.Group.{group_offset, group_question}
 use Rattle.file_group.proofs.Group.{is_groups, places, found-among, group-there, group-missing, answers_at, answers-refused}
 use Rattle.file_group.proofs.find.Goals as goal
-
--- each place that is searched lies in the file
-profile-inside : (layout : Layout) (file : List ℕ) → LaidOut layout file → (k : ℕ) → k < layout.count → profile_at layout k < length file
-profile-inside layout file laid k h =
-    let last = mul-le-mul_right {m = k + 1} {n = layout.count} (profile_length layout) (omega arith) in
-    omega (arith, last, laid.whole, laid.sound.coded)
 
 pub find-requires-clause-callable : goal.find-requires-clause-callable
 find-requires-clause-callable c =

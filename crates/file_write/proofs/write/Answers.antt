@@ -1,5 +1,6 @@
 -- `file_write::write` meets its contract: what is put into the buffer, once all questions passed, is the file.
 use Rattle.std.proofs.Common.{ap, ℕ, List, ◌+◌, ◌*◌, ◌≤◌, length, arith}
+use Rattle.std.proofs.lemmas.Grind.{common_steps}
 use Rattle.std.specs.Borrow.{Bor}
 use Rattle.file_written.proofs.Written.{length-written}
 use Rattle.file_write_check.proofs.Passed.{Writable, writable}
@@ -29,4 +30,4 @@ returns-clause-buffer_after c =
     let header = rw c.in_ok-profiles.ensures.1 at c.put_header.ensures in
     let profiles = rw (c.in_ok-profiles.ensures.1, c.in_ok-profiles.ensures.2) at c.put_profiles.ensures in
     let stored = file-stored a.codes.now a.values.now a.buffer.now told.fits header profiles in
-    rw passed stored
+    grind (arith, common_steps, passed, stored)
