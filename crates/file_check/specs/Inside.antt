@@ -8,7 +8,7 @@ abbrev pub is_above : Option ℕ → ℕ → Bool
 is_above None code = true
 is_above (Some before) code = ltb before code
 
--- the codes stand `apart` bytes from one another, the first one at `at`
+-- the codes stand `apart` bytes from one another, the first one at `at`; `before` is the code in front of it, where there is one
 unfoldable pub codes_asked : ℕ → Option ℕ → ℕ → List ℕ → Verdict
 codes_asked apart before at [] = Pass
 codes_asked apart before at (code ∷ codes) =

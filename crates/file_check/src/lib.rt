@@ -25,7 +25,8 @@ pub fn code_question(before: Option<u8>, code: u8, at: usize) -> Result<(), Refu
     Ok(())
 }
 
-// Question 4, of codes that stand `apart` bytes from one another in a file, or are to stand there, the first one behind the header.
+// Question 4, of codes that stand `apart` bytes from one another in a file, or are to stand there, the first one behind the header: in the
+// definitions `codes_asked` of them, which `codes_question` comes to of a file's own.
 pub fn codes_question<I: Iterator<Item = u8> + Drop>(codes: I, apart: usize) -> Result<(), Refusal>
     requires can { I.can_next codes }
     requires few { UpTo (I.remaining codes) 255 }

@@ -1,7 +1,7 @@
 // Writing's question 5, asked of the lent values before anything is written, and shown to be the reader's of the file to be written.
 #![tactic(auto)]
 
-ghost use Rattle.std.specs.Prelude.{◌≡◌, List, ℕ, ◌*◌, ◌≤◌, length, max};
+ghost use Rattle.std.specs.Prelude.{◌≡◌, List, ℕ, ◌*◌, ◌%◌, ◌≤◌, length, max};
 ghost use Rattle.std.specs.List.{fold};
 ghost use Rattle.big_endian.specs.BigEndian.{words_from};
 ghost use Rattle.refusal.specs.Questions.{ask_each};
@@ -38,7 +38,8 @@ fn profile_values_question(values: &[u16], at: usize) -> Result<(), Refusal>
 
 // Question 5, of the file to be written, whatever its codes are.
 pub fn values_question(values: &[u16]) -> Result<(), Refusal>
-    requires { length values.now ≤ 9504 }
+    requires most { length values.now ≤ 9504 }
+    requires whole { length values.now % 864 ≡ 0 }
     ensures { (codes : List ℕ) → length values.now ≡ length codes * 864 →
         result ≡ values_question (layout_of (written codes values.now)) (written codes values.now) }
 {

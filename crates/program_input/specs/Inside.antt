@@ -15,7 +15,7 @@ head_of input =
       listed = list_length input;
     }
 
--- an input with its head and its list complete
+-- an input that question 13 passes: not too long, its head and its list complete
 pub record CompleteInput (input : List ℕ) : Type 0 where
   pub small : length input ≤ 65_536
   pub head : head_length ≤ length input
