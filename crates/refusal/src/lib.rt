@@ -41,6 +41,7 @@ pub struct CheckReport {
 
 impl Refusal {
     // The number of the question that did not pass.
+    // Kept: a `match` has each number beside its question, as document 01 counts them; `as` gives none of an enum whose cases hold places.
     pub fn number(self) -> u32
         ensures { result ≡ refusal_number self }
     {

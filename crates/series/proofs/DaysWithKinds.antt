@@ -10,7 +10,7 @@ use Rattle.calendar_holidays.specs.Holidays.{listed}
 use Rattle.calendar_days.specs.declared.DayKind.{DayKind}
 use Rattle.calendar_days.specs.Days.{season, day_type_when}
 use Rattle.calendar_period.specs.Period.{dates_from}
-use Rattle.series.specs.Inside.{with_kinds, NotFalling}
+use Rattle.series.specs.Inside.{with_kinds, DatesNotFalling}
 
 -- the dates from one on are none of them earlier than what it is not earlier than
 after : (k n : ℕ) (d : Date) → AllDates n d → k ≤ number_of d → Each (λ (later : Date). k ≤ number_of later) (dates_from n d)
@@ -20,7 +20,7 @@ after k (suc n) d all h =
     let next = (next-day-counts d (all_first (suc n) d all (omega arith))).later in
     (h, after k n (next_day d) (rw one at (all-next (suc n) d all)) (omega (arith, next)))
 
-pub not_falling : (n : ℕ) (d : Date) → AllDates n d → NotFalling (dates_from n d)
+pub not_falling : (n : ℕ) (d : Date) → AllDates n d → DatesNotFalling (dates_from n d)
 not_falling zero d all = tt
 not_falling (suc n) d all =
     let one : suc n - 1 ≡ n = omega arith in
@@ -37,7 +37,7 @@ same_kinds holidays ahead from (d ∷ dates) same h =
 
 -- the first of some dates with its kind, and the others
 pub first_day : (holidays ahead : List ℕ) {dates rest : List Date} {d : Date} {kind : DayKind} {holiday : Bool} {number : ℕ} →
-    NotFalling dates → dates ≡ d ∷ rest → number ≡ number_of d → holiday ≡ listed number holidays →
+    DatesNotFalling dates → dates ≡ d ∷ rest → number ≡ number_of d → holiday ≡ listed number holidays →
     ((later : ℕ) → number ≤ later → listed later ahead ≡ listed later holidays) →
     kind ≡ record { season = season d; day_type = day_type_when d holiday } →
     with_kinds holidays dates ≡ (d, kind) ∷ with_kinds ahead rest

@@ -33,6 +33,6 @@ abbrev pub with_kinds : List ℕ → List Date → List (Date × DayKind)
 with_kinds holidays dates = map (λ d. (d, day_kind d holidays)) dates
 
 -- no date is earlier than one before it
-abbrev pub NotFalling : List Date → Type 0
-NotFalling [] = Unit {0}
-NotFalling (d ∷ dates) = Each (λ later. number_of d ≤ number_of later) dates × NotFalling dates
+abbrev pub DatesNotFalling : List Date → Type 0
+DatesNotFalling [] = Unit {0}
+DatesNotFalling (d ∷ dates) = Each (λ later. number_of d ≤ number_of later) dates × DatesNotFalling dates

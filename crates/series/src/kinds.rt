@@ -2,7 +2,7 @@
 ghost use Rattle.std.specs.Prelude.{◌≡◌};
 ghost use Rattle.std.specs.Iterator.{YieldsFirst, item_count};
 ghost use Rattle.calendar_days.specs.Days.{season, day_type_when};
-ghost use Rattle.series.specs.Inside.{with_kinds, NotFalling};
+ghost use Rattle.series.specs.Inside.{with_kinds, DatesNotFalling};
 
 use calendar_dates::CalendarDay;
 use calendar_days::DayKind;
@@ -22,18 +22,18 @@ impl<'a> Model for KindDays<'a> {
     ghost use Rattle.std.specs.Prelude.{List};
     ghost use Rattle.calendar_dates.specs.declared.Date.{Date};
     ghost use Rattle.calendar_days.specs.declared.DayKind.{DayKind};
-    ghost use Rattle.series.specs.Inside.{with_kinds, NotFalling};
+    ghost use Rattle.series.specs.Inside.{with_kinds, DatesNotFalling};
 
     ghost Value = { List (Date × DayKind) };
 
     ghost view = { λ days. with_kinds days.ahead days.dates };
 
-    ghost invariant = { λ days. NotFalling days.dates };
+    ghost invariant = { λ days. DatesNotFalling days.dates };
 }
 
 impl<'a> KindDays<'a> {
     pub(crate) fn new(dates: Days, ahead: HolidaysAhead<'a>) -> KindDays<'a>
-        requires { NotFalling dates }
+        requires { DatesNotFalling dates }
         ensures { result ≡ with_kinds ahead.entry dates }
     {
         KindDays { dates, ahead }
