@@ -1,5 +1,6 @@
 // Numbers in bytes, the highest byte first (document 01, "All numbers in it are big-endian"): read and put.
-// Kept: a place beside the bytes, since a file's and an input's numbers stand at places that are counted from its start.
+// Kept: a place beside the bytes, since the numbers of a file, of an input and of a profile's part stand at places counted from its start;
+// a function for each size, since `from_be_bytes` is each type's own.
 #![tactic(auto)]
 
 ghost use Rattle.std.specs.Prelude.{◌≡◌, [], ◌∷◌, ◌+◌, ◌≤◌, ◌<◌, length};

@@ -28,8 +28,8 @@ impl Model for CalendarDay {
 }
 
 // t, counted from 1 January.
-// Kept: a `for`: a chain of `map` and `sum` was proved too, and is no plainer: its proof wants lemmas, which the loop's does not, on what
-// the months of a range add up to.
+// Kept: a `for`: a chain of `map` and `sum` was proved too, and is no plainer: its proof wants more lemmas, on what the months of a range
+// add up to.
 fn day_of_year(date: Date) -> u32
     requires { is_date date ≡ true }
     ensures { result ≡ day_of_year date }
@@ -88,6 +88,7 @@ impl CalendarDay {
     }
 
     // The number yyyymmdd.
+    // Kept: a method and no From: a day has two numbers, this one and `day_number`.
     #[tactic(auto, using(crate::proofs::Dates::parts))]
     pub fn number(self) -> u32
         ensures { result ≡ number_of self }

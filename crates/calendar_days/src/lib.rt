@@ -146,6 +146,7 @@ fn is_eve(date: Date) -> bool
 // The day type, of a date whose weekday is known, and of which it is known whether it is a listed holiday. Any date has one, also one
 // that is no date of the span and so no CalendarDay.
 // Kept: a flag, as `is_listed` and `HolidaysAhead::lists` answer one; an enum of two cases would be made of it only to be matched on here.
+// Date and weekday apart, since the promise is of any date.
 #[tactic(auto, unfolding(crate::specs::Days::day_type_when))]
 pub fn day_type_when(date: Date, weekday: u32, holiday: bool) -> DayType
     requires { weekday ≡ weekday_of date }

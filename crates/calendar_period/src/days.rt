@@ -4,6 +4,7 @@ ghost use Rattle.std.specs.Iterator.{YieldsFirst, item_count};
 ghost use Rattle.calendar_dates.specs.Dates.{AllDates};
 ghost use Rattle.calendar_period.specs.Period.{dates_from};
 
+use crate::Period;
 use calendar_dates::CalendarDay;
 use std::marker::Model;
 
@@ -28,13 +29,12 @@ impl Model for Days {
 }
 
 impl Days {
-    pub(crate) fn new(first: CalendarDay, days: u32) -> Days
-        requires { AllDates days first }
-        ensures { result ≡ dates_from days first }
+    pub(crate) fn new(period: Period) -> Days
+        ensures { result ≡ dates_from period.days period.first }
     {
         Days {
-            day: first,
-            left: days,
+            day: period.first(),
+            left: period.days(),
         }
     }
 }

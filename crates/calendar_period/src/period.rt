@@ -88,10 +88,11 @@ impl Period {
         ensures few { self.days ≤ 1_461 }
         ensures real { AllDates self.days self.first }
     {
-        Days::new(self.first, self.days)
+        Days::new(self)
     }
 
     // The number of its values.
+    // Kept: a `for`: as a chain of `map` and `sum` over `dates` it leaves two goals more to answer, on what the iterator yields.
     pub fn value_count(self) -> usize
         ensures { result ≡ value_count_of_days self.days self.first }
     {

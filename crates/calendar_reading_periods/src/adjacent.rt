@@ -53,6 +53,7 @@ impl<'a> Periods<'a> {
 }
 
 // The number of the day after a period: that of the next first date, or of the day after the span.
+// Kept: the later first dates and the span's last one by one, since `next` has taken the first of them off.
 fn number_after(later: &[u32], last: u32) -> u32
     requires last_value { is_date (date_of last) ≡ true }
     requires dates { FirstDates last later.now }

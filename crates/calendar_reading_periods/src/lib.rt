@@ -25,7 +25,8 @@ pub fn readings_question(dates: usize, values: usize) -> Result<(), Refusal>
 }
 
 // Question 18, of one first date: the first one stands at the span's start, each later one behind the one before it.
-// Kept: a date is given by its index, since a refusal names it by that; the span's dates as numbers, since the question compares numbers.
+// Kept: a date is given by its index, since a refusal names it by that; the span's dates as numbers, here and below, since the question
+// compares numbers.
 #[tactic(auto, unfolding(crate::specs::ReadingPeriods::first_date_question))]
 fn first_date_question(first: u32, last: u32, starts: &[u32], index: usize) -> Result<(), Refusal>
     requires { index < length starts.now }

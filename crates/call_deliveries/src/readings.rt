@@ -1,6 +1,7 @@
 // What a call is given but its output: the lent file, the wanted group, the whole span's first and last date, the first dates of the
 // reading periods, their metered kWh, the holiday list and the yearly use A in kWh.
-// Kept: no struct of what it has in common with `Request`, which would be taken apart in each of the calls.
+// Kept: no struct of what it has in common with `Request`: the calls would read its parts one step deeper, and C's arguments would be put into
+// two structs.
 #[derive(Clone, Copy)]
 pub struct Readings<'a> {
     pub file: &'a [u8],

@@ -38,6 +38,7 @@ impl From<Result<usize, Refusal>> for HolidaysReport {
 }
 
 // Question 14: the year, or the refusal.
+// Kept: no TryFrom: Year stands in a crate below that knows no refusal.
 #[tactic(auto, unfolding(crate::specs::Holidays::year_question))]
 fn year_in(number: u32) -> Result<Year, Refusal>
     ensures { result ≡ answered (year_question number) number }

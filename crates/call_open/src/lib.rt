@@ -20,7 +20,7 @@ pub struct Opening {
 }
 
 // Questions 1 to 8: the file, the group and the period.
-// Kept: one by one what two sorts of requests have in common, the calls' and the deliveries': a third struct would be made of them here.
+// Kept: one by one what two sorts of requests have in common, the calls' and the deliveries', for the reason at `call_deliveries::Readings`.
 pub fn open_period(file: &[u8], group: u8, first: u32, last: u32) -> Result<Opening, Refusal>
     ensures value { result ≡ answered
         (ahead_of_period file.now group then period_check first last)

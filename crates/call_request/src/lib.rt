@@ -35,7 +35,7 @@ fn carry_question(carry: u32) -> Result<(), Refusal>
 }
 
 // Questions 9 to 11.
-// Kept: three parts of a request one by one: who asks these questions needs no file, group and dates for it.
+// Kept: three parts of a request one by one, as the promise is of any three: a whole Request would ask more of a caller.
 pub fn behind_period(holidays: &[u32], yearly: u32, carry: u32) -> Result<(), Refusal>
     ensures { result ≡ behind_period holidays.now yearly carry }
 {

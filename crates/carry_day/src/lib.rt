@@ -29,7 +29,8 @@ pub fn ranges_of(powers: &[u32], clock: Clock) -> (&[u32], &[u32])
 }
 
 // Stores the figures of a range, in parts where the yearly use is small enough.
-// Kept: arguments and bounds as in `carry_quotients::carry_by_quotients`, for the reason there, here and below.
+// Kept: yearly use and carry as two arguments, and the bounds, for the reason at `carry_quotients::carry_by_quotients`, here and below; powers
+// and clock one by one, since document 01 has the 96 powers themselves handed to the clock-change and carry step ("Forms by place").
 fn carry_range(powers: &[u32], yearly: u32, carry: u32, out: &mut [u32]) -> Carried
     requires small_powers { SmallPowers powers.now yearly carry }
     requires in_day { length powers.now ≤ 96 }

@@ -12,9 +12,9 @@ const PARTS: u64 = 274_877_906_944;
 // The same as `carry_by_quotients` for a yearly use of at most 500,000 kWh, with which a day's sum in parts fits 64 bits. The carry,
 // and what a power of 0.1 W comes to in a quarter hour, are turned into parts, rounded up: a range's sum is then too large by less
 // than 1/40,000 Wh, which changes no quotient, and a division by 2^38 is a shift.
-// Kept: arguments and bounds as in `carry_quotients::carry_by_quotients`, for the reason there; and a function of its own, over the same
-// loop, since it rounds up where that one is exact: the two share neither the bound on the yearly use nor the reason that the figures
-// are right.
+// Kept: yearly use and carry as two arguments, and the bounds, for the reason at `carry_quotients::carry_by_quotients`; and a function of its
+// own, over the same loop, since it rounds up where that one is exact: it asks for a smaller yearly use, and its figures are right for
+// another reason.
 pub fn carry_by_parts(powers: &[u32], yearly: u32, carry: u32, out: &mut [u32]) -> Carried
     requires small_powers { SmallPowers powers.now yearly carry }
     requires in_day { length powers.now ≤ 96 }

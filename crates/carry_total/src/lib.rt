@@ -19,7 +19,8 @@ fn sum_of(powers: &[u32]) -> u64
 }
 
 // The sum of the day's figures, and the carry that they leave.
-// Kept: arguments and bounds as in `carry_quotients::carry_by_quotients`, for the reason there.
+// Kept: yearly use and carry as two arguments, and the bounds, for the reason at `carry_quotients::carry_by_quotients`; powers and clock one
+// by one, as `carry_day` has them.
 pub fn total_day(powers: [u32; 96], clock: Clock, yearly: u32, carry: u32) -> Carried
     requires { SmallPowers powers yearly carry }
     ensures { DayTotal powers clock yearly carry result }

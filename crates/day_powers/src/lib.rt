@@ -15,6 +15,8 @@ pub fn day_table_index(season: Season, day_type: DayType) -> usize
 }
 
 // The powers of a day table's 96 values, for one factor. `values` are a group's.
+// Kept: the table by its number, as `day_table_index` gives it and the file counts its tables; places by number, since of what is written
+// through a zip with iter_mut a proof knows the length alone.
 pub fn powers_of(values: &[u16], table: usize, f: u32) -> [u32; 96]
     requires day_table_inside { DayTableInside table values.now }
     requires f_bound { f ≤ 20_000 }

@@ -22,7 +22,7 @@ const HOUSEHOLDS: Coefficients = Coefficients {
 };
 
 // X of a group by its code: households (code 0) are dynamised, the other groups are not.
-// Kept: a group is the code of a profile, a byte of the file: all that is asked of it is whether it is 0, so no enum is plainer.
+// Kept: a group is the code of a profile, a byte of the file: all that is asked of it here is whether it is 0, so no enum is plainer.
 #[tactic(auto, using(crate::proofs::Households::households, crate::proofs::Households::others))]
 fn exact_factor(group: u8, t: u32) -> i64
     requires { Day t }

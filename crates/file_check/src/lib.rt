@@ -16,6 +16,7 @@ use refusal::Refusal;
 const HIGHEST_CODE: u8 = 10;
 
 // Question 4, of a code that stands at `at` in a file, or is to stand there, with the code before it where there is one.
+// Kept: the place beside the code, since a refusal names it.
 pub fn code_question(before: Option<u8>, code: u8, at: usize) -> Result<(), Refusal>
     ensures { result ≡ ask (leb code 10 && is_above before code) (BadCode at) }
 {

@@ -10,7 +10,8 @@ use file_layout::{HEADER_LENGTH, ProfileFile};
 use refusal::Refusal;
 
 // Question 6: where the group's code stands. A refusal names `place`.
-// Kept: a place in the file and no part of it, since locating hands it on to C as an offset.
+// Kept: a place beside the file, here and in all that is found by this, with the bound that it keeps: a type of both would have to promise the
+// lent pointer, since locating hands out the caller's own memory, and no answer that holds it would be an equation of values.
 pub fn find(file: ProfileFile, group: u8, place: usize) -> Result<usize, Refusal>
     ensures value { result ≡ answered (group_question file.entry.bytes.now group place) (group_offset file.entry.bytes.now group) }
     ensures inside { IfOk result (λ at. at + profile_length (layout_of file.entry.bytes.now) ≤ length file.entry.bytes.now) }

@@ -83,6 +83,7 @@ fn version_question(file: &[u8]) -> Result<(), Refusal>
 }
 
 // Question 3.
+// Kept: the layout beside the file: a file and a layout that it fits are a ProfileFile once this has passed.
 #[tactic(auto, unfolding(crate::specs::Header::length_question))]
 fn length_question(layout: Layout, file: &[u8]) -> Result<(), Refusal>
     requires { Sound layout }
@@ -108,7 +109,7 @@ pub fn header_questions(file: &[u8]) -> Result<(), Refusal>
 }
 
 // The value bytes of the profile whose code stands at `at`.
-// Kept: the place beside the file, as `file_group::find` gives it.
+// Kept: the place beside the file, for the reason at `file_group::find`.
 pub fn value_bytes(file: &[u8], at: usize) -> &[u8]
     requires { at + profile_length (layout_of file.now) ≤ length file.now }
     ensures { ValueBytesOf file.entry at result }

@@ -23,7 +23,7 @@ fn fill(part: &[u8], table: &mut [u16])
 }
 
 // The values of the profile whose code stands at `at`, by value.
-// Kept: the place beside the file, as `file_group::find` gives it.
+// Kept: the place beside the file, for the reason at `file_group::find`.
 #[tactic(auto, using(file_layout::proofs::Header::value_bytes_long), unfolding(file_layout::specs::Header::layout_of))]
 pub fn table_at(file: &[u8], at: usize) -> [u16; 864]
     requires { at + profile_length (layout_of file.now) ≤ length file.now }

@@ -39,7 +39,8 @@ fn upper_bytes(values: &[u8]) -> u16
 }
 
 // Question 5, of the profile at `at`.
-// Kept: the place beside the file, and no part of it, since a refusal names the place in the whole file.
+// Kept: the place beside the file, and no part of it, since a refusal names the place in the whole file; a function of its own beside that of
+// `file_write_values`: bytes are lent here and values there, and each looks ahead in its own way.
 fn profile_values_question(layout: Layout, file: &[u8], at: usize) -> Result<(), Refusal>
     requires { at + profile_length layout ≤ length file.now }
     ensures { result ≡ profile_values_question layout file.now at }

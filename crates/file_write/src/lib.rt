@@ -36,6 +36,7 @@ fn put_values(values: &[u16], part: &mut [u8])
 }
 
 // The profiles, after the header.
+// Kept: a place in the buffer for each profile by its number, for the reason in `put_values`.
 fn put_profiles(profiles: Profiles, buffer: &mut [u8])
     requires { 6 + length profiles.codes.now * 1729 ≤ length buffer.old }
     ensures { buffer.new ≡ sets buffer.old 6 (profiles_of 864 profiles.entry.codes.now profiles.entry.values.now) }

@@ -40,7 +40,7 @@ pub fn check_profiles<'a>(
     Ok(profiles)
 }
 
-// The same without what is to be written.
+// The same without what is to be written, for who asks writing's questions and writes nothing.
 // Kept: codes and values apart, here and above, as they come one by one over the C interface.
 pub fn write_check(codes: &[u8], values: &[u16], room: usize) -> Result<(), Refusal>
     ensures { result ≡ write_check codes.now values.now room }

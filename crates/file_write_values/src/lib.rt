@@ -21,7 +21,8 @@ fn highest_value(values: &[u16]) -> u16
 }
 
 // Question 5, of a profile's values, in a file that has them from `at` on.
-// Kept: the place beside the values, since a refusal names it and the values do not say where they are to stand.
+// Kept: the place beside the values, since a refusal names it and the values do not say where they are to stand; a function of its own, for
+// the reason at that of `file_values`.
 fn profile_values_question(values: &[u16], at: usize) -> Result<(), Refusal>
     requires { (length values.now ≤ 3456) × (at ≤ 100_000) }
     ensures { (file : List ℕ) → words_from file (length values.now) at ≡ values.now →

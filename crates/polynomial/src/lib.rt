@@ -7,7 +7,8 @@ ghost use Rattle.polynomial.specs.Polynomial.{X, Limited};
 ghost use Rattle.polynomial.specs.Inside.{Day};
 
 // The five coefficients, for t^4 down to t^0, in units of 10^-12.
-// Kept: no type parameter for the number: document 01 asks for a struct of five f64 beside the i64 polynomial ("Forms by place").
+// Kept: no type parameter for the number: document 01 asks for a struct of five f64 beside the i64 polynomial ("Forms by place"), and no
+// function of either would be written for both.
 #[derive(Clone, Copy, Debug, PartialEq, Eq)]
 pub struct Coefficients {
     pub t4: i64,

@@ -37,13 +37,14 @@ fn day_in_range(p: AllowedPolynomial, t: u32) -> bool
 }
 
 // Whether X is in range on each of the 366 days.
-// Kept: a loop and no `all`: the answer of a day does not end the loop, so that the compiler can take several days at once.
+// Kept: a loop and no `all`, which would end at the first day out of range, so that the compiler could not take several days at once; a
+// `fold` wants a lemma more.
 fn every_day_in_range(p: AllowedPolynomial) -> bool
     ensures { result ≡ usable (coefficients_of p.polynomial) }
 {
     let mut passed = true;
-    for done in 0..366 {
-        passed &= day_in_range(p, done + 1);
+    for t in 1..=366 {
+        passed &= day_in_range(p, t);
     }
     passed
 }

@@ -32,6 +32,7 @@ fn answer(input: &Input, page: &mut Page)
 }
 
 // Puts the text.
+// Kept: a `match`, since a refusal is put on the page and passed on to no one.
 #[tactic(auto, unfolding(crate::specs::Printed::printed, program_answer::specs::Answer::lines_for))]
 pub fn put_text(bytes: &[u8], page: &mut Page)
     requires { Room page_length page.old }

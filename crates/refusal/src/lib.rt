@@ -32,6 +32,7 @@ pub enum Refusal {
 }
 
 // A verdict in document 01's numbers.
+// Kept: this and each call's report have number and place for themselves, as C's structs have them.
 #[repr(C)]
 #[derive(Clone, Copy, Default)]
 pub struct CheckReport {
@@ -41,7 +42,8 @@ pub struct CheckReport {
 
 impl Refusal {
     // The number of the question that did not pass.
-    // Kept: a `match` has each number beside its question, as document 01 counts them; `as` gives none of an enum whose cases hold places.
+    // Kept: a `match`, here and below, has each number beside its question, as documents 01 and 02 count them; of an enum whose cases hold
+    // places `as` gives none.
     pub fn number(self) -> u32
         ensures { result ≡ refusal_number self }
     {

@@ -45,7 +45,8 @@ fn expand_day(
 }
 
 // Stores the figures of a period from the start of the output on.
-// Kept: a loop here, in `series_totals` and in `text_listing`: a common one would take what a day does as a closure, with its promise.
+// Kept: a loop here, in `series_totals` and in `text_listing`: a common one would take what a day does as a closure, with its promise; and a
+// day's function here and in `series_totals`, since only this one stores.
 pub fn expand_days(
     basis: &Basis,
     period: Period,

@@ -15,7 +15,8 @@ use carry::Totals;
 use series::Basis;
 
 // What one day comes to.
-// Kept: yearly use and carry as two arguments, for the reason at `carry_quotients::carry_by_quotients`, here and below.
+// Kept: yearly use and carry as two arguments, the use beside the basis, and a day with its kind, for the reasons at `series::expand_day`, here
+// and below.
 pub fn total_day(basis: &Basis, day: CalendarDay, kind: DayKind, yearly: u32, carry: u32) -> Totals
     requires own_kind { kind ≡ day_kind day basis.now.holidays }
     requires in_range { InRange yearly carry }

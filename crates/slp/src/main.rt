@@ -10,6 +10,7 @@ ghost use Rattle.program_response.specs.Responding.{page_after};
 use std::io;
 use std::io::{Read, Write};
 
+// Kept: a `match`, here and in `print`: a failure is said on standard error, and not passed on.
 fn main(rt: HostRuntime) -> io::Result<()> {
     let mut page = [0u8; program_response::PAGE_LENGTH];
     match read_input(&rt) {

@@ -8,7 +8,7 @@ mod second;
 ghost use Rattle.std.specs.Prelude.{◌≤◌};
 
 use call_day::DayReport;
-use second::{Figures, Listed};
+use second::{Day, Figures, Listed};
 use std::io;
 
 fn main(rt: HostRuntime) -> io::Result<()> {
@@ -28,7 +28,7 @@ fn compare_span(rt: &HostRuntime, listed: Listed) -> io::Result<()> {
     let mut agree: u32 = 0;
     for year in 1996..2100 {
         for t in 1..=365 + second::leap_days(year) {
-            if agrees(rt, year, t, weekday, listed)? {
+            if agrees(rt, Day { year, t, weekday }, listed)? {
                 agree += 1;
             }
             days += 1;
@@ -39,12 +39,10 @@ fn compare_span(rt: &HostRuntime, listed: Listed) -> io::Result<()> {
 }
 
 // Whether the day's figures agree; where they do not, a line has the date, the enquiry's figures and the second calendar's.
-fn agrees(rt: &HostRuntime, year: u32, t: u32, weekday: u32, listed: Listed) -> io::Result<bool>
-    requires { (year ≤ 2099) × ((1 ≤ t) × (t ≤ 366)) }
-{
-    let date = second::date_of(year, t);
-    let answered = enquired(date, year, listed);
-    let expected = second::figures_of(year, t, weekday, listed);
+fn agrees(rt: &HostRuntime, day: Day, listed: Listed) -> io::Result<bool> {
+    let date = day.date();
+    let answered = enquired(date, day.year, listed);
+    let expected = day.figures(listed);
     if answered != expected {
         println!(rt; "{date}{answered}, not{expected}")?;
     }

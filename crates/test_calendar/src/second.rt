@@ -7,7 +7,7 @@ use std::fmt;
 
 // A day's figures, in the order of the enquiry's report: number and place are 0 when it is not refused.
 // Kept: a struct of its own and numbers for season and day type, since what is printed of it is the test's own, and it is compared with a
-// report, which has numbers for C. Year, t and weekday stand one by one below, as the loops over all days count them.
+// report, which has numbers for C.
 #[derive(Clone, Copy, PartialEq, Eq)]
 pub struct Figures {
     pub number: u32,
@@ -55,86 +55,99 @@ pub enum Listed {
     YearEnd,
 }
 
-// What the report must be.
-pub fn figures_of(year: u32, t: u32, weekday: u32, listed: Listed) -> Figures {
-    Figures {
-        number: 0,
-        place: 0,
-        weekday,
-        t,
-        season: season(year, t),
-        day_type: day_type(year, t, weekday, is_listed(year, t, listed)),
-        values: values(year, t, weekday),
-    }
-}
-
+// The days of a year beyond 365.
 pub fn leap_days(year: u32) -> u32
     ensures { result ≤ 1 }
 {
     u32::from(year % 4 == 0)
 }
 
-// The date as a number yyyymmdd. From March on each five months have 153 days: a date n days after 1 March lies m months
-// after March.
-pub fn date_of(year: u32, t: u32) -> u32
-    requires { (year ≤ 2099) × ((1 ≤ t) × (t ≤ 366)) }
-{
-    let leap = leap_days(year);
-    let month_and_day = if t <= 31 {
-        100 + t
-    } else if t <= 59 + leap {
-        200 + (t - 31)
-    } else {
-        let n = t - 60 - leap;
-        let m = (5 * n + 2) / 153;
-        (m + 3) * 100 + (n - (153 * m + 2) / 5 + 1)
-    };
-    year * 10_000 + month_and_day
+// A day of the span: its year, the day of the year, and its weekday, 1 Monday to 7 Sunday.
+#[derive(Clone, Copy)]
+pub struct Day {
+    pub year: u32,
+    pub t: u32,
+    pub weekday: u32,
+    ghost in_span: { year ≤ 2099 },
+    ghost in_year: { (1 ≤ t) × (t ≤ 366) },
 }
 
-// 1 winter, 2 summer, 3 transition. In a common year 21 March is day 80, 15 May 135, 14 September 257, 1 November 305.
-fn season(year: u32, t: u32) -> u32 {
-    let leap = leap_days(year);
-    if t < 80 + leap || 305 + leap <= t {
-        1
-    } else if 135 + leap <= t && t <= 257 + leap {
-        2
-    } else {
-        3
+impl Day {
+    // What the report must be.
+    pub fn figures(self, listed: Listed) -> Figures {
+        Figures {
+            number: 0,
+            place: 0,
+            weekday: self.weekday,
+            t: self.t,
+            season: self.season(),
+            day_type: self.day_type(listed),
+            values: self.values(),
+        }
     }
-}
 
-// Whether the list has the day. 24 December is the year's eighth day from the end, day 358 of a common year.
-fn is_listed(year: u32, t: u32, listed: Listed) -> bool {
-    let leap = leap_days(year);
-    match listed {
-        Listed::Nothing => false,
-        Listed::Day => true,
-        Listed::YearEnd => (358 + leap..=360 + leap).contains(&t) || t == 365 + leap,
+    // The date as a number yyyymmdd. From March on each five months have 153 days: a date n days after 1 March lies m months
+    // after March.
+    pub fn date(self) -> u32 {
+        let leap = leap_days(self.year);
+        let month_and_day = if self.t <= 31 {
+            100 + self.t
+        } else if self.t <= 59 + leap {
+            200 + (self.t - 31)
+        } else {
+            let n = self.t - 60 - leap;
+            let m = (5 * n + 2) / 153;
+            (m + 3) * 100 + (n - (153 * m + 2) / 5 + 1)
+        };
+        self.year * 10_000 + month_and_day
     }
-}
 
-// 1 weekday, 2 Saturday, 3 Sunday: what is listed counts as Sunday, and on 24 and 31 December a weekday counts as Saturday.
-fn day_type(year: u32, t: u32, weekday: u32, is_listed: bool) -> u32 {
-    let leap = leap_days(year);
-    if is_listed || weekday == 7 {
-        3
-    } else if weekday == 6 || t == 358 + leap || t == 365 + leap {
-        2
-    } else {
-        1
+    // 1 winter, 2 summer, 3 transition. In a common year 21 March is day 80, 15 May 135, 14 September 257, 1 November 305.
+    fn season(self) -> u32 {
+        let leap = leap_days(self.year);
+        if self.t < 80 + leap || 305 + leap <= self.t {
+            1
+        } else if 135 + leap <= self.t && self.t <= 257 + leap {
+            2
+        } else {
+            3
+        }
     }
-}
 
-// The clocks change on the Sunday among the last seven days of March, days 84 to 90 of a common year, and of October,
-// days 298 to 304.
-fn values(year: u32, t: u32, weekday: u32) -> u32 {
-    let leap = leap_days(year);
-    if weekday == 7 && (84 + leap..=90 + leap).contains(&t) {
-        92
-    } else if weekday == 7 && (298 + leap..=304 + leap).contains(&t) {
-        100
-    } else {
-        96
+    // Whether the list has the day. 24 December is the year's eighth day from the end, day 358 of a common year.
+    fn is_listed(self, listed: Listed) -> bool {
+        let leap = leap_days(self.year);
+        match listed {
+            Listed::Nothing => false,
+            Listed::Day => true,
+            Listed::YearEnd => {
+                (358 + leap..=360 + leap).contains(&self.t) || self.t == 365 + leap
+            }
+        }
+    }
+
+    // 1 weekday, 2 Saturday, 3 Sunday: what is listed counts as Sunday, and on 24 and 31 December a weekday counts as Saturday.
+    fn day_type(self, listed: Listed) -> u32 {
+        let leap = leap_days(self.year);
+        if self.is_listed(listed) || self.weekday == 7 {
+            3
+        } else if self.weekday == 6 || self.t == 358 + leap || self.t == 365 + leap {
+            2
+        } else {
+            1
+        }
+    }
+
+    // The clocks change on the Sunday among the last seven days of March, days 84 to 90 of a common year, and of October,
+    // days 298 to 304.
+    fn values(self) -> u32 {
+        let leap = leap_days(self.year);
+        if self.weekday == 7 && (84 + leap..=90 + leap).contains(&self.t) {
+            92
+        } else if self.weekday == 7 && (298 + leap..=304 + leap).contains(&self.t) {
+            100
+        } else {
+            96
+        }
     }
 }

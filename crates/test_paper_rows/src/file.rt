@@ -19,7 +19,7 @@ pub fn make(rt: &HostRuntime, file: &mut [u8; LENGTH]) -> io::Result<()> {
 }
 
 // The values of all rows into the group that starts at `start`. Those of the other quarter hours stay 0.
-// Kept: places in the values, since a line names the one at fault.
+// Kept: places in the values, here and below, since a line names the one at fault.
 fn fill(rt: &HostRuntime, values: &mut [u16; 1728], start: usize, table: &Table) -> io::Result<()>
     requires { start ≤ 864 }
 {

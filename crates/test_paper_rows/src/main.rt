@@ -77,7 +77,7 @@ fn compare_row(
 }
 
 // Whether a number agrees with the printed one. Where it does not, a line has what the number is of and both; none where none is printed.
-// Kept: 0 where none is printed, as the tables have it, which are the paper's.
+// Kept: 0 and no Option where none is printed: a table would have `Some` around each of its other cells.
 pub fn agrees<T: fmt::Display>(
     rt: &HostRuntime,
     subject: &T,

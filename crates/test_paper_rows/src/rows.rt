@@ -16,6 +16,7 @@ pub type Table = [[u16; 8]; 20];
 pub struct Row {
     pub date: u32,
     pub t: u32,
+    // Kept: a place and no DayKind, since the places in the file are among what is tested
     pub start: usize,
     // Kept: a flag and no list of holidays, which is the same in eighteen of twenty rows
     pub regional: bool,

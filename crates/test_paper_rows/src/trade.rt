@@ -52,6 +52,8 @@ const SCALED: Table = [
     [3241, 3175, 3095, 0, 2582, 2539, 2506, 2511],
 ];
 
+// Kept: a function for each of the paper's tables, here, below and in `households`: a scale and a line of text of its own; what compares the
+// tables is `crate::compare`.
 pub fn compare_values(rt: &HostRuntime, file: &[u8; file::LENGTH]) -> io::Result<()> {
     let scale = Scale {
         group: 1,

@@ -14,7 +14,7 @@ use text::Page;
 use text_fields::{DayEntry, DayLine};
 
 // Works a period out day by day, puts a line for each day in a form, and answers what the days come to.
-// Kept: yearly use and carry as two arguments, for the reason at `carry_quotients::carry_by_quotients`.
+// Kept: yearly use and carry as two arguments, and the use beside the basis, for the reasons at `series::expand_day`.
 pub fn list_days<L: DayLine>(
     basis: &Basis,
     period: Period,

@@ -16,6 +16,7 @@ use text_fields::{DayEntry, DayLine};
 pub const LINE_LENGTH: usize = 38;
 
 // Puts the two numbers of a line, behind its day type: a space, the count, a space, the Wh and LF.
+// Kept: count and Wh one by one, with their bounds, here and below: a day's line has them in a DayEntry, the last one in a carry::Totals.
 fn put_amounts(count: usize, watt_hours: u64, page: &mut Page)
     requires count_bound { count < 10 ^ count_width }
     requires watt_hours_bound { watt_hours < 10 ^ watt_hours_width }
