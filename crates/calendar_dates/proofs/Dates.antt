@@ -25,7 +25,7 @@ entry-small limit [] h i = omega arith
 entry-small limit (x ∷ xs) h zero = leb-true x limit (both (leb x limit) (all_small limit xs) h).0
 entry-small limit (x ∷ xs) h (suc i) = entry-small limit xs (both (leb x limit) (all_small limit xs) h).1 i
 
-pub table-small : (i : ℕ) → get_or month_lengths i 0 ≤ 31
+table-small : (i : ℕ) → get_or month_lengths i 0 ≤ 31
 unfolding all_small
 table-small i = entry-small 31 month_lengths refl i
 
@@ -99,7 +99,7 @@ parts d h =
     }
 
 -- where year, month and day are in range, the month's length l decides
-pub by_length : (d : Date) (l : ℕ) → 1996 ≤ d.year → d.year ≤ 2099 → 1 ≤ d.month → d.month ≤ 12 → 1 ≤ d.day → l ≡ month_length d.year d.month → leb d.day l ≡ is_date d
+by_length : (d : Date) (l : ℕ) → 1996 ≤ d.year → d.year ≤ 2099 → 1 ≤ d.month → d.month ≤ 12 → 1 ≤ d.day → l ≡ month_length d.year d.month → leb d.day l ≡ is_date d
 unfolding is_date
 by_length d l a b e f g h =
     rw (le-leb 1996 d.year a, le-leb d.year 2099 b, le-leb 1 d.month e, le-leb d.month 12 f, le-leb 1 d.day g, h)

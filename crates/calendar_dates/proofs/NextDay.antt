@@ -29,7 +29,7 @@ pub is-next-month : (d : Date) (l : ℕ) → l ≡ month_length d.year d.month �
 unfolding next_day
 is-next-month d l e h m = rw (← e, le-ltb d.day l h, lt-ltb d.month 12 m)
 
-pub is-next-year : (d : Date) (l : ℕ) → l ≡ month_length d.year d.month → l ≤ d.day → 12 ≤ d.month → next_day d ≡ next_year d
+is-next-year : (d : Date) (l : ℕ) → l ≡ month_length d.year d.month → l ≤ d.day → 12 ≤ d.month → next_day d ≡ next_year d
 unfolding next_day
 is-next-year d l e h m = rw (← e, le-ltb d.day l h, le-ltb d.month 12 m)
 

@@ -89,7 +89,6 @@ impl CalendarDay {
 
     // The number yyyymmdd.
     // Kept: a method and no From: a day has two numbers, this one and `day_number`.
-    #[tactic(auto, using(crate::proofs::Dates::parts))]
     pub fn number(self) -> u32
         ensures { result ≡ number_of self }
     {

@@ -101,6 +101,7 @@ const SATURDAY: u32 = 6;
 const SUNDAY: u32 = 7;
 
 // Whether a date is on or after that day and month of its year.
+// Kept: two functions, here and below, since the paper says "from" and "to", and so do the definitions.
 fn from(date: CalendarDay, day: u32, month: u32) -> bool
     requires { day ≤ 31 }
     ensures { result ≡ from date day month }

@@ -26,7 +26,7 @@ listed_any date [] = refl
 listed_any date (x ∷ xs) = ap (λ (rest : Bool). eqb x date || rest) (listed_any date xs)
 
 -- an earlier entry is passed over
-pub listed-behind : (date : ℕ) (whole : List ℕ) {x : ℕ} {xs : List ℕ} → whole ≡ x ∷ xs → x < date → listed date xs ≡ listed date whole
+listed-behind : (date : ℕ) (whole : List ℕ) {x : ℕ} {xs : List ℕ} → whole ≡ x ∷ xs → x < date → listed date xs ≡ listed date whole
 unfolding listed
 listed-behind date whole {x} e h = rw (e, ne_eqb x date (λ e. omega arith))
 
@@ -63,7 +63,7 @@ module _ (holidays : List ℕ) (in_order : holidays_question holidays ≡ Pass) 
       rw previous at (later-than-before holidays (i + 1) (omega arith) asked)
 
 -- the entries behind the first rise too
-pub rest-rises : (whole : List ℕ) {x : ℕ} {xs : List ℕ} → whole ≡ x ∷ xs → IsStrictlyIncreasing whole → IsStrictlyIncreasing xs
+rest-rises : (whole : List ℕ) {x : ℕ} {xs : List ℕ} → whole ≡ x ∷ xs → IsStrictlyIncreasing whole → IsStrictlyIncreasing xs
 rest-rises whole {x} {xs} e rising i h = go (rw e at rising)
   where
     go : IsStrictlyIncreasing (x ∷ xs) → slice_index xs i < slice_index xs (i + 1)

@@ -16,6 +16,7 @@ pub use period::Period;
 use refusal::Refusal;
 
 // Question 7, of one date: the date, or the refusal.
+// Kept: the place beside the number, since a refusal names it.
 #[tactic(auto, unfolding(crate::specs::Period::date_question))]
 pub fn date_in(number: u32, place: usize) -> Result<CalendarDay, Refusal>
     ensures { result ≡ answered (date_question number place) (date_of number) }

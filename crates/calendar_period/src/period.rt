@@ -74,6 +74,7 @@ impl Period {
         self.first
     }
 
+    // Kept: what the invariant says is promised here and below, since callers see the value alone.
     pub fn days(self) -> u32
         ensures same { result ≡ self.days }
         ensures few { self.days ≤ 1_461 }

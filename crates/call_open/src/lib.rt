@@ -38,6 +38,6 @@ pub fn open(request: Request) -> Result<Opening, Refusal>
     ensures inside { IfOk result (λ o. o.at + profile_length (layout_of request.entry.file.now) ≤ length request.entry.file.now) }
 {
     let opening = open_period(request.file, request.group, request.first, request.last)?;
-    call_request::behind_period(request.holidays, request.yearly, request.carry)?;
+    request.behind_period()?;
     Ok(opening)
 }

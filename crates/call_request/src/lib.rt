@@ -34,14 +34,15 @@ fn carry_question(carry: u32) -> Result<(), Refusal>
     Ok(())
 }
 
-// Questions 9 to 11.
-// Kept: three parts of a request one by one, as the promise is of any three: a whole Request would ask more of a caller.
-pub fn behind_period(holidays: &[u32], yearly: u32, carry: u32) -> Result<(), Refusal>
-    ensures { result ≡ behind_period holidays.now yearly carry }
-{
-    calendar_holidays::holidays_question(holidays)?;
-    use_question(yearly)?;
-    carry_question(carry)
+impl Request<'_> {
+    // Questions 9 to 11.
+    pub fn behind_period(self) -> Result<(), Refusal>
+        ensures { result ≡ behind_period self.entry.holidays.now self.entry.yearly self.entry.carry }
+    {
+        calendar_holidays::holidays_question(self.holidays)?;
+        use_question(self.yearly)?;
+        carry_question(self.carry)
+    }
 }
 
 // Question 12, of an output with `room` entries for the quarter hours of a period. One with 100 for each day is long enough for any

@@ -14,7 +14,7 @@ sum-small [] h = omega arith
 sum-small (p ∷ powers) h = omega (arith, h 0, sum-small powers (λ i. h (suc i)))
 
 -- the growth of the quotient is the document's carry step, whatever the sum was before
-pub growths-figures : (yearly : ℕ) (powers : List ℕ) (s : ℕ) → growths 40_000 yearly powers s ≡ figures yearly powers (s % 40_000)
+growths-figures : (yearly : ℕ) (powers : List ℕ) (s : ℕ) → growths 40_000 yearly powers s ≡ figures yearly powers (s % 40_000)
 unfolding growths figures
 growths-figures yearly [] s = refl
 growths-figures yearly (p ∷ powers) s =

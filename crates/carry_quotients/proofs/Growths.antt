@@ -9,15 +9,15 @@ use Rattle.lists.proofs.Stores.{Storing, nothing_stored, one-stored, all-stored,
 use Rattle.carry_quotients.specs.Inside.{growths, Growing}
 
 -- a quotient does not fall, and grows by no more than what is added goes into the sum
-pub grows : (unit sum added : ℕ) → 0 < unit → sum / unit ≤ (sum + added) / unit
+grows : (unit sum added : ℕ) → 0 < unit → sum / unit ≤ (sum + added) / unit
 grows unit sum added h = le-div (sum / unit) (sum + added) unit h (omega (arith, div-mul-le_self sum unit))
 
-pub growth-small : (unit sum added most : ℕ) → 0 < unit → added ≤ unit * most → (sum + added) / unit ≤ sum / unit + most
+growth-small : (unit sum added most : ℕ) → 0 < unit → added ≤ unit * most → (sum + added) / unit ≤ sum / unit + most
 growth-small unit sum added most h k =
     let room : sum + added < (sum / unit + most + 1) * unit = omega (arith, k, lt-div-mul-add {a = sum} h, mul_comm unit most) in
     omega (arith, div_below (sum + added) unit (sum / unit + most + 1) h room)
 
-pub length-growths : (unit factor : ℕ) (powers : List ℕ) (first : ℕ) → length (growths unit factor powers first) ≡ length powers
+length-growths : (unit factor : ℕ) (powers : List ℕ) (first : ℕ) → length (growths unit factor powers first) ≡ length powers
 unfolding growths
 length-growths unit factor [] first = refl
 length-growths unit factor (p ∷ powers) first = ap suc (length-growths unit factor powers (first + p * factor))

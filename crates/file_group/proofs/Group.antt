@@ -108,10 +108,6 @@ pub found_at : (v : Verdict) {at offset : ℕ} → Ok at ≡ answered v offset �
 found_at (Ok _) h = (refl, cc)
 found_at (Err r) h = let z : ◌≡◌ {A = ℕ} 0 1 = cc in absurd (omega arith)
 
-pub found-refused : (v : Verdict) (offset : ℕ) {r : Refusal} → Err r ≡ answered v offset → v ≡ Err r
-found-refused (Ok _) offset h = let z : ◌≡◌ {A = ℕ} 0 1 = cc in absurd (omega arith)
-found-refused (Err r) offset h = cc
-
 -- and the other way round
 pub answers_at : {v : Verdict} {at offset : ℕ} → v ≡ Pass → at ≡ offset → Ok at ≡ answered v offset
 answers_at p e = rw (p, e)

@@ -34,14 +34,14 @@ joined-before (value ∷ values) joined =
     omega (arith, joined-before values (join joined value), joined-first joined (byte_at value.now 0 + byte_at value.now 1 * 256))
 
 -- each of them is at most what all come to
-pub joined-each : (values : List (Bor (List ℕ))) (joined k : ℕ) (none : Bor (List ℕ)) → k < length values →
+joined-each : (values : List (Bor (List ℕ))) (joined k : ℕ) (none : Bor (List ℕ)) → k < length values →
     byte_at (get_or values k none).now 0 % 256 ≤ fold join joined values % 256
 joined-each [] joined k none h = absurd (omega arith)
 joined-each (value ∷ values) joined zero none h =
     omega (arith, joined-before values (join joined value), joined-second joined (byte_at value.now 0 + byte_at value.now 1 * 256))
 joined-each (value ∷ values) joined (suc k) none h = joined-each values (join joined value) k none (omega arith)
 
-pub some-same : {A : Type 0} (P : A → Type 0) (found : Option A) (x : A) → option_map (λ y. y) found ≡ Some x → IfSome found P → P x
+some-same : {A : Type 0} (P : A → Type 0) (found : Option A) (x : A) → option_map (λ y. y) found ≡ Some x → IfSome found P → P x
 some-same P (Some y) x e h = let same : y ≡ x = cc in rw (← same) h
 some-same P None x e h = let z : ◌≡◌ {A = ℕ} 0 1 = cc in absurd (omega arith)
 

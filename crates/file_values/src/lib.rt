@@ -19,6 +19,7 @@ pub const HIGHEST_VALUE: u16 = 20_000;
 const SAFE_UPPER_BYTE: u16 = 77;
 
 // Question 5, of a value that stands at `at` in a file, or is to stand there.
+// Kept: the place beside the value, since a refusal names it.
 pub fn value_question(value: u16, at: usize) -> Result<(), Refusal>
     ensures { result ≡ ask (leb value 20_000) (BadValue at) }
 {

@@ -55,7 +55,7 @@ powers-all b (suc n) d =
     ∙ sym (map-append _ (day_quarters b d) (quarters_of_days (day_quarters b) n (next_day d)))
 
 -- what two runs come to together
-pub comes-together : (yearly carry : ℕ) (first second : List ℕ) →
+comes-together : (yearly carry : ℕ) (first second : List ℕ) →
     comes_to yearly (first ++ second) carry ≡ together (comes_to yearly first carry) (comes_to yearly second (last_carry yearly first carry))
 comes-together yearly carry first second =
     rw (

@@ -88,6 +88,7 @@ impl Day {
 
     // The date as a number yyyymmdd. From March on each five months have 153 days: a date n days after 1 March lies m months
     // after March.
+    // Kept: worked out from t by hand, since it is what the other calendar is compared with.
     pub fn date(self) -> u32 {
         let leap = leap_days(self.year);
         let month_and_day = if self.t <= 31 {

@@ -21,7 +21,7 @@ pub front-none : (k : ℕ) → front k 0 ≡ []
 front-none zero = refl
 front-none (suc k) = refl
 
-pub front-some : (k n : ℕ) → 0 < n → front k n ≡ digits k n
+front-some : (k n : ℕ) → 0 < n → front k n ≡ digits k n
 unfolding digits
 front-some zero n h = refl
 front-some (suc k) zero h = absurd (omega arith)
@@ -35,7 +35,7 @@ digits_last k n =
     (λ some. rw (le-ltb n 10 (omega arith), front-some k (n / 10) some))
     (eq-zero-or-pos (n / 10))
 
-pub digits-count : (k n : ℕ) → length (digits (suc k) n) ≡ suc (length (front k (n / 10)))
+digits-count : (k n : ℕ) → length (digits (suc k) n) ≡ suc (length (front k (n / 10)))
 digits-count k n = rw (digits_last k n) (omega (arith, length-append (front k (n / 10)) (digit (n % 10) ∷ [])))
 
 -- a number below 10 ^ j has at most j digits
@@ -66,7 +66,7 @@ front-long (suc k) (suc n) (suc j) h less =
     let deeper : 10 ^ j ≤ suc n / 10 = omega (arith, pow-succ' 10 j) in
     omega (arith, digits-count k (suc n), front-long k (suc n / 10) j deeper (omega arith))
 
-pub decimal-long : (n k : ℕ) → 10 ^ k ≤ n → k < 20 → k < length (decimal_text n)
+decimal-long : (n k : ℕ) → 10 ^ k ≤ n → k < 20 → k < length (decimal_text n)
 decimal-long n zero h less = omega (arith, digits-count 19 n)
 decimal-long n (suc k) h less =
     let deeper : 10 ^ k ≤ n / 10 = omega (arith, pow-succ' 10 k) in

@@ -9,14 +9,6 @@ use Rattle.call_deliveries.specs.Deliveries.{difference}
 use Rattle.call_deliveries.proofs.Filling.{length-differences, begin, turn, end}
 use Rattle.call_deliveries.proofs.fill.Goals as goal
 
-pub loop-i-init : goal.loop-i-init
-loop-i-init c =
-    rw (c.into_iter-i-iterator.ensures.into_iter_gives, c.enumerate-i-items.ensures.source, c.enumerate-i-items.ensures.count)
-    (begin c.requires.same c.requires.yearly_small)
-
-pub total_days-balanced-requires : goal.total_days-balanced-requires
-total_days-balanced-requires c = c.loop-i.invariant.range
-
 pub loop-i-preserved : goal.loop-i-preserved
 loop-i-preserved c =
     let steps = c.in-Some.ensures.steps in

@@ -2,14 +2,9 @@
 -- above by at most 39,999 for the carry and for each tenth of a watt (proofs/Parts.antt).
 use Rattle.std.proofs.Common.{◌+◌, ◌*◌, ◌≤◌, ◌<◌, arith}
 use Rattle.lists.specs.Lists.{sum}
-use Rattle.carry_quotients.proofs.Figures.{growing, carried, sum-small}
+use Rattle.carry_quotients.proofs.Figures.{carried, sum-small}
 use Rattle.carry_parts.proofs.Parts.{scaled, excess, quotient-of, remainder_of, first-sum, first-excess, more-sum, growths-of}
 use Rattle.carry_parts.proofs.carry_by_parts.Goals as goal
-
-pub store_growths-sum-requires-clause-growing : goal.store_growths-sum-requires-clause-growing
-store_growths-sum-requires-clause-growing c =
-    let small = c.requires.small_powers in
-    growing {limit = 3_435_973_836_800} small.small c.requires.in_day (omega (arith, small.in_range)) (omega arith) (omega arith) (omega (arith, small.in_range))
 
 pub returns : goal.returns
 returns c =

@@ -1,13 +1,7 @@
 -- `carry_quotients::store_growths` meets its contract: what is stored and the powers left come to the whole (proofs/Growths.antt).
 use Rattle.std.proofs.Common.{arith}
-use Rattle.carry_quotients.proofs.Growths.{start, falls-not, growth, turn, done}
+use Rattle.carry_quotients.proofs.Growths.{growth, turn, done}
 use Rattle.carry_quotients.proofs.store_growths.Goals as goal
-
-pub loop-i-init : goal.loop-i-init
-loop-i-init g c = start c.requires.growing _
-
-pub overflow_sub-out : goal.overflow_sub-out
-overflow_sub-out g c = falls-not c.requires.growing c.loop-i.invariant
 
 pub overflow_cast-out : goal.overflow_cast-out
 overflow_cast-out g c = omega (arith, growth c.requires.growing c.loop-i.invariant)

@@ -1,19 +1,10 @@
 -- `file_write::put_profiles` meets its contract: each profile stands behind those before it, its code and then its values.
-use Rattle.std.proofs.Common.{◌≡◌, ◌+◌, ◌-◌, ◌*◌, length, arith, refl, rules}
+use Rattle.std.proofs.Common.{◌≡◌, ◌+◌, ◌-◌, ◌*◌, length, arith, refl}
 use lib.ListN.{set, length-set}
-use Rattle.lists.proofs.Stores.{nothing_stored, some_stored, one-stored, all-stored, part-stored}
-use Rattle.file_write.proofs.Buffer.{codes_left, values_left, pairs-begin, pair_given, pairs-end}
+use Rattle.lists.proofs.Stores.{some_stored, one-stored, all-stored, part-stored}
+use Rattle.file_write.proofs.Buffer.{pair_given, pairs-end}
 use Rattle.big_endian.specs.BigEndian.{bytes_of}
-use Rattle.std.specs.Iterator.Adapters.{enumerate_count}
 use Rattle.file_write.proofs.put_profiles.Goals as goal
-
-pub loop-i-init : goal.loop-i-init
-loop-i-init c =
-    let pairs = c.into_iter-i-iterator.result in
-    let codes : codes_left pairs ≡ c.args.profiles.codes.now = search rules in
-    let values : values_left pairs ≡ c.args.profiles.values.now = search rules in
-    let none : enumerate_count pairs ≡ 0 = search rules in
-    (pairs-begin pairs _ _ (search rules) codes values none c.args.profiles.amounts.each, rw (codes, values, none) nothing_stored)
 
 pub loop-i-preserved : goal.loop-i-preserved
 loop-i-preserved c =

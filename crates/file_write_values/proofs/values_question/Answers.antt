@@ -1,14 +1,8 @@
 -- `file_write_values::values_question` meets its contract: what is asked of a part is its profile's question in the file.
-use Rattle.std.proofs.Common.{◌∙◌, ◌≡◌, arith, rules}
-use Rattle.std.specs.Iterator.Adapters.{enumerate_count}
+use Rattle.std.proofs.Common.{◌∙◌, arith, rules}
 use Rattle.refusal.proofs.Questions.{asked-refuses, asked_more, asked_all}
-use Rattle.file_write_values.proofs.Values.{values-each, part-asked, parts-begin, part_given, parts_end}
+use Rattle.file_write_values.proofs.Values.{values-each, part-asked, part_given, parts_end}
 use Rattle.file_write_values.proofs.values_question.Goals as goal
-
-pub loop-k-init : goal.loop-k-init
-loop-k-init c =
-    let none : enumerate_count c.into_iter-k-iterator.result ≡ 0 = search rules in
-    (parts-begin (search rules) (search rules) none, λ codes each. rw none (search rules))
 
 pub returns-in_err-profile_values_question : goal.returns-in_err-profile_values_question
 returns-in_err-profile_values_question c codes each =

@@ -3,11 +3,6 @@ use Rattle.std.proofs.Common.{arith}
 use Rattle.series.proofs.OneDay.{own-kind, counted, day-filled}
 use Rattle.series.proofs.expand_day.Goals as goal
 
-pub carry_day-carried-requires-clause-small_powers : goal.carry_day-carried-requires-clause-small_powers
-carry_day-carried-requires-clause-small_powers c =
-    let range = c.requires.in_range in
-    record { small = c.powers.ensures.small; yearly_small = range.yearly_small; in_range = range.carry_small }
-
 pub carry_day-carried-requires-clause-room : goal.carry_day-carried-requires-clause-room
 carry_day-carried-requires-clause-room c =
     let b = c.args.basis.now in

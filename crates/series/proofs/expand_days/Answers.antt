@@ -2,8 +2,8 @@
 use Rattle.std.proofs.Common.{arith, ap}
 use lib.ListN.{length-map}
 use Rattle.carry.specs.declared.Totals.{Totals}
-use Rattle.series.proofs.DayByDay.{start, in-range, next-kind, count-fits, total-fits}
-use Rattle.series.proofs.Storing.{none-stored, all-filled, day-stored}
+use Rattle.series.proofs.DayByDay.{start, in-range, total-fits}
+use Rattle.series.proofs.Storing.{none-stored, day-stored}
 use Rattle.series.proofs.expand_days.Goals as goal
 
 pub loop-day-init : goal.loop-day-init
@@ -16,15 +16,6 @@ loop-day-init c =
     (start c.args.basis.now days.group_values p.days p.first c.requires.in_range days.few days.real))
     (rw length-map c.requires.room)
 
-pub offset_bounds-out-at : goal.offset_bounds-out-at
-offset_bounds-out-at c =
-    let s = c.loop-day.invariant.so_far in
-    let few = s.fits.few in
-    omega (arith, count-fits s c.in-Some.ensures.steps)
-
-pub expand_day-today-requires-clause-own_kind : goal.expand_day-today-requires-clause-own_kind
-expand_day-today-requires-clause-own_kind c = next-kind c.loop-day.invariant.so_far c.in-Some.ensures.steps
-
 pub expand_day-today-requires-clause-in_range : goal.expand_day-today-requires-clause-in_range
 expand_day-today-requires-clause-in_range c = in-range c.loop-day.invariant.so_far
 
@@ -36,6 +27,3 @@ and-so_far-requires-clause-total c =
 pub loop-day-preserved : goal.loop-day-preserved
 loop-day-preserved c =
     day-stored c.loop-day.invariant c.in-Some.ensures.steps c.expand_day-today.ensures c.and-so_far.ensures
-
-pub returns : goal.returns
-returns c = all-filled c.loop-day.invariant c.in-None.ensures.steps.0

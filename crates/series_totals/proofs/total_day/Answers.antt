@@ -3,11 +3,6 @@ use Rattle.series.proofs.OneDay.{own-kind}
 use Rattle.series_totals.proofs.Summing.{day-total}
 use Rattle.series_totals.proofs.total_day.Goals as goal
 
-pub total_day-carried-requires : goal.total_day-carried-requires
-total_day-carried-requires c =
-    let range = c.requires.in_range in
-    record { small = c.powers.ensures.small; yearly_small = range.yearly_small; in_range = range.carry_small }
-
 pub returns : goal.returns
 returns c =
     let b = c.args.basis.now in

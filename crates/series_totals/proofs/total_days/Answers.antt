@@ -1,7 +1,7 @@
 -- `series_totals::total_days` meets its contract: a turn is one day (proofs/Summing.antt).
 use Rattle.std.proofs.Common.{arith, ap, []}
 use Rattle.carry.specs.declared.Totals.{Totals}
-use Rattle.series.proofs.DayByDay.{start, in-range, next-kind, count-fits, total-fits, all-done}
+use Rattle.series.proofs.DayByDay.{start, in-range, total-fits}
 use Rattle.series_totals.proofs.Summing.{day-summed}
 use Rattle.series_totals.proofs.total_days.Goals as goal
 
@@ -16,18 +16,8 @@ loop-day-init c =
           (start c.args.basis.now days.group_values p.days p.first c.requires days.few days.real);
     }
 
-pub total_day-today-requires-clause-own_kind : goal.total_day-today-requires-clause-own_kind
-total_day-today-requires-clause-own_kind c = next-kind c.loop-day.invariant.so_far c.in-Some.ensures.steps
-
 pub total_day-today-requires-clause-in_range : goal.total_day-today-requires-clause-in_range
 total_day-today-requires-clause-in_range c = in-range c.loop-day.invariant.so_far
-
-pub and-so_far-requires-clause-count : goal.and-so_far-requires-clause-count
-and-so_far-requires-clause-count c =
-    let s = c.loop-day.invariant.so_far in
-    let few = s.fits.few in
-    let today = ap (λ (t : Totals). t.count) c.total_day-today.ensures in
-    omega (arith, count-fits s c.in-Some.ensures.steps)
 
 pub and-so_far-requires-clause-total : goal.and-so_far-requires-clause-total
 and-so_far-requires-clause-total c =
@@ -36,12 +26,3 @@ and-so_far-requires-clause-total c =
 
 pub loop-day-preserved : goal.loop-day-preserved
 loop-day-preserved c = day-summed c.loop-day.invariant c.in-Some.ensures.steps c.total_day-today.ensures c.and-so_far.ensures
-
-pub returns-clause-value : goal.returns-clause-value
-returns-clause-value c = all-done c.loop-day.invariant.so_far c.in-None.ensures.steps.0
-
-pub returns-clause-small : goal.returns-clause-small
-returns-clause-small c =
-    let s = c.loop-day.invariant.so_far in
-    let total = ap (λ (t : Totals). t.total) (all-done s c.in-None.ensures.steps.0) in
-    omega (arith, s.fits.most)

@@ -1,7 +1,7 @@
 -- `text::write_digits` meets its contract. The invariant: what is left to write, and the digits written, are the number's last digits.
-use Rattle.std.proofs.Common.{◌≡◌, ◌∙◌, List, ◌++◌, ℕ, zero, suc, ◌-◌, ◌/◌, ◌%◌, ◌≤◌, ◌<◌, length, drop, arith, append-nil, append_assoc, add-one}
+use Rattle.std.proofs.Common.{◌≡◌, ◌∙◌, List, ◌++◌, ℕ, zero, suc, ◌-◌, ◌/◌, ◌%◌, ◌≤◌, ◌<◌, length, drop, arith, append_assoc, add-one}
 use Rattle.std.proofs.Math.ListN.{set}
-use Rattle.std.proofs.lemmas.List.{drop-set, drop_all}
+use Rattle.std.proofs.lemmas.List.{drop-set}
 use Rattle.text.specs.Text.{digit}
 use Rattle.text.specs.Inside.{last_digits}
 use Rattle.text.proofs.write_digits.Goals as goal
@@ -14,9 +14,6 @@ turn (suc left) rest places some inside =
     let less : suc left - 1 ≡ left = omega arith in
     let fits : left < length places = omega arith in
     rw (less, drop-set places left (digit (rest % 10)) fits, add-one left, append_assoc)
-
-pub loop-place-init : goal.loop-place-init
-loop-place-init c = rw (drop_all (length c.args.places.now) c.args.places.now (omega arith)) (append-nil _)
 
 pub loop-place-preserved : goal.loop-place-preserved
 loop-place-preserved c =

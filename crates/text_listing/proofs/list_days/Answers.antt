@@ -1,8 +1,8 @@
 -- `text_listing::list_days` meets its contract: a turn is one day (proofs/LineByLine.antt).
 use Rattle.std.proofs.Common.{arith}
 use Rattle.series_rows.specs.Rows.{row_of}
-use Rattle.series.proofs.DayByDay.{start, in-range, next-kind}
-use Rattle.text_listing.proofs.LineByLine.{none-put, all-put, line-room, few-counted, count-room, total-room, line-put}
+use Rattle.series.proofs.DayByDay.{start, in-range}
+use Rattle.text_listing.proofs.LineByLine.{none-put, few-counted, total-room, line-put}
 use Rattle.text_listing.proofs.list_days.Goals as goal
 
 pub loop-day-init : goal.loop-day-init
@@ -12,9 +12,6 @@ loop-day-init g c =
     let zero = c.default.ensures in
     rw (c.into_iter-day-iterator.ensures.into_iter_gives, days.value, zero.0, zero.1.0)
     (none-put g.L.DayLine.line g.L.DayLine.longest (start c.args.basis.now days.group_values p.days p.first c.requires.in_range days.few days.real))
-
-pub total_day-today-requires-clause-own_kind : goal.total_day-today-requires-clause-own_kind
-total_day-today-requires-clause-own_kind g c = next-kind c.loop-day.invariant.so_far c.in-Some.ensures.steps
 
 pub total_day-today-requires-clause-in_range : goal.total_day-today-requires-clause-in_range
 total_day-today-requires-clause-in_range g c = in-range c.loop-day.invariant.so_far
@@ -26,13 +23,6 @@ put-requires-clause-count_bound g c =
 pub put-requires-clause-watt_hours_bound : goal.put-requires-clause-watt_hours_bound
 put-requires-clause-watt_hours_bound g c =
     omega (arith, total-room c.loop-day.invariant c.in-Some.ensures.steps c.total_day-today.ensures)
-
-pub put-requires-clause-room : goal.put-requires-clause-room
-put-requires-clause-room g c = line-room c.loop-day.invariant c.in-Some.ensures.steps c.requires.room
-
-pub and-so_far-requires-clause-count : goal.and-so_far-requires-clause-count
-and-so_far-requires-clause-count g c =
-    omega (arith, count-room c.loop-day.invariant c.in-Some.ensures.steps c.total_day-today.ensures)
 
 pub and-so_far-requires-clause-total : goal.and-so_far-requires-clause-total
 and-so_far-requires-clause-total g c =
@@ -48,6 +38,3 @@ loop-day-preserved g c =
     let most = total-room l steps e in
     let short = g.met.L.DayLine.within c.in-Some.kind (row_of c.in-Some.day today.count today.total) (omega arith) (omega arith) in
     line-put l steps e c.put.ensures short c.requires.room c.and-so_far.ensures
-
-pub returns : goal.returns
-returns g c = all-put c.loop-day.invariant c.in-None.ensures.steps.0

@@ -27,9 +27,3 @@ overflow_add-values c =
       values-small period.days period.first,
       c.dates-day-items.ensures.few,
     )
-
-pub loop-day-preserved : goal.loop-day-preserved
-loop-day-preserved c = omega (arith, turn c.in-Some.ensures.steps (c.value_count.ensures ∙ ap value_count_under c.clock_of.ensures), c.loop-day.invariant)
-
-pub returns : goal.returns
-returns c = omega (arith, ap (sum_by value_count) c.in-None.ensures.steps.0, c.loop-day.invariant)
