@@ -6,7 +6,7 @@ use mir.Facts.{to_z-of_z}
 use mir.Syntax.{w64}
 use borrow.Author.Rules.{sfits_of}
 use Rattle.call_deliveries.specs.Deliveries.{difference}
-use Rattle.call_deliveries.proofs.Filling.{length-differences, begin, turn, end}
+use Rattle.call_deliveries.proofs.Filling.{length-differences, turn, end}
 use Rattle.call_deliveries.proofs.fill.Goals as goal
 
 pub loop-i-preserved : goal.loop-i-preserved
