@@ -59,6 +59,7 @@ impl Period {
     }
 
     // The period of some days from a day on.
+    // Kept: the two one by one, since here they become one value.
     pub fn of_days(first: CalendarDay, days: u32) -> Period
         requires few { days ≤ 1_461 }
         requires real { AllDates days first }

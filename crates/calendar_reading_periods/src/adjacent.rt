@@ -44,6 +44,7 @@ impl<'a> Periods<'a> {
     }
 
     // The periods of first dates that rise inside a span of at most 1,461 days, whose last date is given: no question is asked.
+    // Kept: the two one by one, since here they become one value.
     pub fn of_first_dates(starts: &'a [u32], last: u32) -> Periods<'a>
         requires { PeriodsLeft last starts.now }
         ensures { result ≡ periods_of last starts.now }
@@ -53,7 +54,8 @@ impl<'a> Periods<'a> {
 }
 
 // The number of the day after a period: that of the next first date, or of the day after the span.
-// Kept: the later first dates and the span's last one by one, since `next` has taken the first of them off.
+// Kept: the two one by one, and no method: in a contract a Periods is the list of its periods, which does not tell the span's last date where
+// none is left.
 fn number_after(later: &[u32], last: u32) -> u32
     requires last_value { is_date (date_of last) ≡ true }
     requires dates { FirstDates last later.now }

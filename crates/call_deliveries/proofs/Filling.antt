@@ -7,10 +7,9 @@ use native.Mathlib.Omega.{arith}
 use lib.IntN.{ℤ}
 use lib.ListN.{length, get_or, drop, set, drop_of_length-le}
 use Rattle.lists.proofs.Parts.{drop-next}
-use Rattle.lists.proofs.Stores.{stored-first, Storing, nothing_stored, one-stored, all-stored}
+use Rattle.lists.proofs.Stores.{stored-first, Storing, one-stored, all-stored}
 use Rattle.calendar_period.specs.Period.{PeriodDays}
 use Rattle.carry.specs.declared.Totals.{Totals}
-use Rattle.carry.specs.Carry.{largest_use}
 use Rattle.carry.proofs.Carry.{carry-small}
 use Rattle.day_powers.specs.DayQuarters.{Basis}
 use Rattle.series.specs.Inside.{InRange, comes_to}
@@ -32,10 +31,6 @@ pub record Left (b : Basis) (yearly : ℕ) (metered : List ℕ) (whole : List �
   pub range : InRange yearly carry
 
 module _ {b : Basis} {yearly : ℕ} {metered : List ℕ} where
-  pub begin : {entry : List ℤ} {periods : List PeriodDays} → length metered ≡ length periods → yearly ≤ largest_use →
-      Left b yearly metered (differences_from b yearly metered periods 0) entry entry 0 0 periods
-  begin e h = record { stored = nothing_stored; same = omega arith; range = record { yearly_small = h; carry_small = omega arith } }
-
   module _ {whole entry out : List ℤ} {at carry : ℕ} {periods : List PeriodDays} (l : Left b yearly metered whole entry out at carry periods) where
     pub turn : {p : PeriodDays} {rest : List PeriodDays} {t : Totals} {z : ℤ} → periods ≡ p ∷ rest → t ≡ comes_to yearly (powers_in b p) carry →
         z ≡ difference (get_or metered at 0) t.total → Left b yearly metered whole entry (set out at z) (at + 1) t.carry rest

@@ -45,8 +45,8 @@ fn difference_of(metered: u32, balanced: u64) -> i64
 }
 
 // Fills the first entries of the output with the differences and keeps those beyond. The carry runs through from 0.
-// Kept: places by number, since of what is written through a zip with iter_mut a proof knows the length alone; the use beside the basis,
-// as in `series`.
+// Kept: places by number, of the output since a proof knows the length alone of what is written through a zip with iter_mut, and of the
+// metered values by the same number; the use beside the basis, as in `series`.
 fn fill(basis: &Basis, periods: Periods, metered: &[u32], yearly: u32, out: &mut [i64])
     requires yearly_small { yearly ≤ largest_use }
     requires same { length metered.now ≡ length periods }

@@ -28,25 +28,12 @@ positions-small Unchanged powers h = h
 positions-small Forward powers h = append-small 40_000 (take 8 powers) (drop 12 powers) (take-small 8 40_000 powers h) (drop-small 12 40_000 powers h)
 positions-small Back powers h = append-small 40_000 (take 12 powers) (drop 8 powers) (take-small 12 40_000 powers h) (drop-small 8 40_000 powers h)
 
-first-small : (limit : ℕ) (xs ys : List ℕ) → ((i : ℕ) → get_or (xs ++ ys) i 0 ≤ limit) → (i : ℕ) → get_or xs i 0 ≤ limit
-first-small limit [] ys h i = omega arith
-first-small limit (x ∷ xs) ys h zero = h 0
-first-small limit (x ∷ xs) ys h (suc i) = first-small limit xs ys (λ j. h (suc j)) i
-
 second-small : (limit : ℕ) (xs ys : List ℕ) → ((i : ℕ) → get_or (xs ++ ys) i 0 ≤ limit) → (i : ℕ) → get_or ys i 0 ≤ limit
 second-small limit [] ys h i = h i
 second-small limit (x ∷ xs) ys h i = second-small limit xs ys (λ j. h (suc j)) i
 
 -- the day's two ranges
 module _ (powers one two : List ℕ) (clock : Clock) {yearly carry : ℕ} (joined : one ++ two ≡ positions clock powers) (small : SmallPowers powers yearly carry) where
-  pub first-range : SmallPowers one yearly carry
-  first-range =
-      record {
-        small = first-small 40_000 one two (rw joined (positions-small clock powers small.small));
-        yearly_small = small.yearly_small;
-        in_range = small.in_range;
-      }
-
   -- the second begins with the carry that the first leaves
   pub second-range : {before middle : List ℕ} {first : Carried} → RangeCarried one yearly carry before first middle → SmallPowers two yearly first.carry
   second-range f =

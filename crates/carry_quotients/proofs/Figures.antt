@@ -1,10 +1,10 @@
 -- The figures of a range are the growths of a quotient, its carry the remainder. Assumes nothing.
-use Rattle.std.proofs.Common.{◌≡◌, refl, ◌∙◌, List, [], ◌∷◌, ◌++◌, ℕ, suc, ◌+◌, ◌-◌, ◌*◌, ◌/◌, ◌%◌, ◌^◌, ◌≤◌, ◌<◌, length, get_or, drop, arith}
+use Rattle.std.proofs.Common.{◌≡◌, refl, ◌∙◌, List, [], ◌∷◌, ◌++◌, ℕ, suc, ◌+◌, ◌-◌, ◌*◌, ◌/◌, ◌%◌, ◌≤◌, length, get_or, drop, arith}
 use Rattle.std.proofs.Math.Nat.{mul-le-mul, mul_comm}
 use Rattle.lists.specs.Lists.{sum}
 use Rattle.carry.specs.Carry.{largest_carry, figures, last_carry}
 use Rattle.carry.proofs.Carry.{telescope, carry-small}
-use Rattle.carry_quotients.specs.Inside.{SmallPowers, RangeCarried, growths, Growing}
+use Rattle.carry_quotients.specs.Inside.{SmallPowers, RangeCarried, growths}
 use Rattle.carry_quotients.specs.declared.Carried.{Carried}
 
 -- the sum of small powers
@@ -33,14 +33,6 @@ comes yearly powers carry h =
     let small = carry-small yearly carry powers h in
     let turned = mul_comm yearly (sum powers) in
     record { total = omega arith; carry_left = omega arith }
-
--- a range of at most 96 small powers keeps to the bounds of its growths
-pub growing : {unit factor limit first : ℕ} {powers : List ℕ} → ((i : ℕ) → get_or powers i 0 ≤ 40_000) → length powers ≤ 96 →
-    first < unit → factor ≤ limit → 40_000 * limit ≤ unit * 4_294_967_295 → first + 96 * (40_000 * limit) < 2 ^ 64 → Growing unit factor powers first
-growing {factor = factor} {limit} {powers = powers} small short below h most fits =
-    let each : 40_000 * factor ≤ 40_000 * limit = omega arith in
-    let all : length powers * (40_000 * factor) ≤ 96 * (40_000 * limit) = mul-le-mul short each in
-    record { none_yet = below; small = small; growth_small = omega arith; sum_small = omega arith }
 
 -- the growths, stored, and the last sum are the range's figures and what they come to
 pub carried : {powers : List ℕ} {yearly carry s : ℕ} {before after : List ℕ} {r : Carried} → SmallPowers powers yearly carry → length powers ≤ 96 →

@@ -1,17 +1,14 @@
 -- How the quotient of a growing sum grows: its bounds, and the loop that stores the growths by turns. Assumes nothing.
-use Rattle.std.proofs.Common.{◌≡◌, refl, sym, ◌∙◌, ap, List, [], ◌∷◌, ◌++◌, ℕ, suc, ◌+◌, ◌-◌, ◌*◌, ◌/◌, ◌≤◌, ◌<◌, length, get_or, drop, arith}
-use Rattle.std.proofs.Math.Nat.{div-eq_of_lt, div-mul-le_self, lt-div-mul-add, mul-le-mul, mul_comm}
+use Rattle.std.proofs.Common.{◌≡◌, refl, ◌∙◌, ap, List, [], ◌∷◌, ◌++◌, ℕ, suc, ◌+◌, ◌-◌, ◌*◌, ◌/◌, ◌≤◌, ◌<◌, length, get_or, drop, arith}
+use Rattle.std.proofs.Math.Nat.{lt-div-mul-add, mul-le-mul, mul_comm}
 use Rattle.std.proofs.Math.ListN.{set, drop_of_length-le}
-use Rattle.std.proofs.lemmas.Nat.{le-div, div_below}
+use Rattle.std.proofs.lemmas.Nat.{div_below}
 use Rattle.lists.specs.Lists.{sum}
 use Rattle.lists.proofs.Parts.{drop-next}
-use Rattle.lists.proofs.Stores.{Storing, nothing_stored, one-stored, all-stored, stored-first}
+use Rattle.lists.proofs.Stores.{Storing, one-stored, all-stored, stored-first}
 use Rattle.carry_quotients.specs.Inside.{growths, Growing}
 
--- a quotient does not fall, and grows by no more than what is added goes into the sum
-grows : (unit sum added : ℕ) → 0 < unit → sum / unit ≤ (sum + added) / unit
-grows unit sum added h = le-div (sum / unit) (sum + added) unit h (omega (arith, div-mul-le_self sum unit))
-
+-- a quotient grows by no more than what is added goes into the sum
 growth-small : (unit sum added most : ℕ) → 0 < unit → added ≤ unit * most → (sum + added) / unit ≤ sum / unit + most
 growth-small unit sum added most h k =
     let room : sum + added < (sum / unit + most + 1) * unit = omega (arith, k, lt-div-mul-add {a = sum} h, mul_comm unit most) in
@@ -33,15 +30,9 @@ module _ {unit factor : ℕ} {powers : List ℕ} {first : ℕ} (g : Growing unit
   positive : 0 < unit
   positive = let above = g.none_yet in omega arith
 
-  pub start : (before : List ℕ) → Left unit factor powers first before before 0 first 0
-  start before = record { quotient = sym (div-eq_of_lt g.none_yet); stored = nothing_stored; summed = refl; small = omega arith }
-
   module _ {before out : List ℕ} {at s total : ℕ} (l : Left unit factor powers first before out at s total) where
     added : get_or powers at 0 * factor ≤ 40_000 * factor
     added = let same : factor ≤ factor = omega arith in mul-le-mul (g.small at) same
-
-    pub falls-not : total ≤ (s + get_or powers at 0 * factor) / unit
-    falls-not = omega (arith, l.quotient, grows unit s (get_or powers at 0 * factor) positive)
 
     pub growth : (s + get_or powers at 0 * factor) / unit - total ≤ 4_294_967_295
     growth =

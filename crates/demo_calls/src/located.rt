@@ -10,6 +10,7 @@ pub fn show(rt: &HostRuntime, file: &[u8]) -> io::Result<()> {
     Ok(())
 }
 
+// Kept: file and group apart, as `file_locate::locate` takes them.
 fn show_group(rt: &HostRuntime, file: &[u8], group: u8) -> io::Result<()> {
     let part = file_locate::locate(file, group);
     let length = part.len();

@@ -1,6 +1,6 @@
 // The calls of documents 01 and 02 for other languages: numbers and slices in, structs of numbers out. A slice goes as a pointer and a
 // length. Each has the contract of the call that it makes, by the numbers of its answer.
-// Kept: a request's parts are arguments one by one, since C hands them so.
+// Kept: a call's parts are arguments one by one, since C hands them so.
 #![tactic(auto)]
 
 ghost use Rattle.std.specs.Prelude.{◌≡◌, length};

@@ -59,8 +59,8 @@ fn profile_values_question(layout: Layout, file: &[u8], at: usize) -> Result<(),
 }
 
 // Question 5.
-// Kept: the layout beside the file: a ProfileFile has the header's layout alone. check_file asks under that one, but what is promised holds
-// under any layout that the file's length fits, and a promise is not made less.
+// Kept: the layout beside the file, here and above: a ProfileFile has the header's layout alone. check_file asks under that one, but what is
+// promised holds under any layout that the file's length fits, and a promise is not made less.
 pub fn values_question(layout: Layout, file: &[u8]) -> Result<(), Refusal>
     requires { LaidOut layout file.now }
     ensures { result ≡ values_question layout file.now }

@@ -58,10 +58,6 @@ pub record PairGiven (n : ℕ) (pairs next : Pairs) (i code : ℕ) (part : List 
   pub profile : profiles_of 864 (codes_left pairs) (values_left pairs) ≡ code ∷ (bytes_of part ++ profiles_of 864 (codes_left next) (values_left next))
   pub paired : Paired n next
 
-pub pairs-begin : (pairs : Pairs) (codes values : List ℕ) → chunks_exact_size (zip_second (enumerate_source pairs)) ≡ 864 → codes_left pairs ≡ codes →
-    values_left pairs ≡ values → enumerate_count pairs ≡ 0 → length values ≡ length codes * 864 → Paired (length codes) pairs
-pairs-begin pairs codes values size ec ev none each = record { total = omega (arith, ap length ec, none); size = size; each = rw (ec, ev) each }
-
 none-left : (codes values : List ℕ) → length codes ≡ 0 → profiles_of 864 codes values ≡ []
 unfolding profiles_of
 none-left [] values e = refl

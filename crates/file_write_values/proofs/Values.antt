@@ -84,10 +84,6 @@ pub record PartsLeft (values : List ℕ) (parts : Enumerate (ChunksExact ℕ)) :
   pub rest : chunks_exact_rest (enumerate_source parts) ≡ drop (enumerate_count parts * 864) values
   pub within : enumerate_count parts * 864 ≤ length values
 
-pub parts-begin : {values : List ℕ} {parts : Enumerate (ChunksExact ℕ)} → chunks_exact_size (enumerate_source parts) ≡ 864 →
-    chunks_exact_rest (enumerate_source parts) ≡ values → enumerate_count parts ≡ 0 → PartsLeft values parts
-parts-begin size rest none = record { size = size; rest = rw none rest; within = omega arith }
-
 -- it gives part k, and goes on to those behind it
 pub record PartGiven (values : List ℕ) (next : Enumerate (ChunksExact ℕ)) (k : ℕ) (part : List ℕ) : Type 0 where
   pub own : part ≡ take 864 (drop (k * 864) values)

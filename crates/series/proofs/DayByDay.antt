@@ -3,7 +3,7 @@
 -- Assumes nothing.
 use mathlib.Core.Path.{◌≡◌, refl, sym, ◌∙◌, ap}
 use mathlib.Core.Bool.{true}
-use mathlib.Core.List.{List, [], ◌∷◌, ◌++◌, map-append, append_assoc, append-nil}
+use mathlib.Core.List.{List, [], ◌∷◌, ◌++◌, map-append, append_assoc}
 use Prim.Native.Nat.{ℕ, zero, suc, ◌+◌, ◌-◌, ◌*◌, ◌^◌, ◌≤◌}
 use native.Mathlib.Nat.{mul-le-mul}
 use native.Mathlib.Omega.{arith}
@@ -130,13 +130,6 @@ module _ (b : Basis) (sound : GroupValues b.values) where
 
 module _ {b : Basis} {yearly carry : ℕ} {whole done : List ℕ} {left : List (Date × DayKind)} {totals : Totals}
     (s : SoFar b yearly carry whole done left totals) where
-  -- all days are done
-  pub all-parts : left ≡ [] → done ≡ whole
-  all-parts none = sym (append-nil done) ∙ (rw none at s.parts)
-
-  pub all-done : left ≡ [] → totals ≡ comes_to yearly whole carry
-  all-done none = s.come_to ∙ ap (λ (all : List ℕ). comes_to yearly all carry) (all-parts none)
-
   -- the carry so far is in range
   pub in-range : InRange yearly totals.carry
   in-range =
@@ -149,9 +142,6 @@ module _ {b : Basis} {yearly carry : ℕ} {whole done : List ℕ} {left : List (
 
     joined : (done ++ day_powers b d) ++ powers_on b rest ≡ whole
     joined = append_assoc done (day_powers b d) (powers_on b rest) ∙ split
-
-    pub next-kind : kind ≡ day_kind d b.holidays
-    next-kind = (rw e at s.kinds).0
 
     -- what the next day comes to, and the days so far with it
     abbrev today : Totals

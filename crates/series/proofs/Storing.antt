@@ -11,7 +11,7 @@ use Rattle.carry.proofs.Carry.{figures-append, length-figures}
 use Rattle.day_powers.specs.DayQuarters.{Basis}
 use Rattle.series.specs.Inside.{Filled}
 use Rattle.series.proofs.OneDay.{day_powers}
-use Rattle.series.proofs.DayByDay.{SoFar, all-parts, all-done, count-fits, day-done}
+use Rattle.series.proofs.DayByDay.{SoFar, count-fits, day-done}
 
 -- the figures of the days so far stand in front of the output, whose whole will have room
 pub record Stored (b : Basis) (yearly carry : ℕ) (whole : List ℕ) (left : List (Date × DayKind)) (totals : Totals) (entry out : List ℕ) : Type 0 where
@@ -28,12 +28,6 @@ none-stored so_far room = record { done = []; so_far = so_far; stored = refl; ro
 
 module _ {b : Basis} {yearly carry : ℕ} {whole : List ℕ} {left : List (Date × DayKind)} {totals : Totals} {entry out : List ℕ}
     (s : Stored b yearly carry whole left totals entry out) where
-  -- all days are done
-  pub all-filled : left ≡ [] → Filled yearly whole carry entry totals out
-  all-filled none =
-      let all = all-parts s.so_far none in
-      record { stored = s.stored ∙ rw all; totals = all-done s.so_far none }
-
   module _ {d : Date} {kind : DayKind} {rest : List (Date × DayKind)} (e : left ≡ (d, kind) ∷ rest) where
     -- the next day has room behind those so far
     pub day-room : totals.count + length (day_powers b d) ≤ length entry

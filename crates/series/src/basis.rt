@@ -40,6 +40,7 @@ impl<'a> Model for Basis<'a> {
 }
 
 impl<'a> Basis<'a> {
+    // Kept: the three one by one, since here they become one value.
     pub fn new(values: &'a [u16], group: u8, holidays: &'a [u32]) -> Basis<'a>
         requires group_values { GroupValues values.now }
         requires in_order { holidays_question holidays.now ≡ Pass }
@@ -64,6 +65,7 @@ impl<'a> Basis<'a> {
     }
 
     // The powers of a day of a kind, before the clock change.
+    // Kept: a day and its kind one by one, as the iterator gives them.
     pub fn powers(&self, day: CalendarDay, kind: DayKind) -> [u32; 96]
         ensures value { result ≡ powers_by (F self.now.group (day_of_year day)) (day_table_at (day_table_of kind) self.now.values) }
         ensures small { (i : ℕ) → get_or result i 0 ≤ 40_000 }

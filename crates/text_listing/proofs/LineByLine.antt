@@ -1,7 +1,7 @@
 -- A period's lines, one after the other: what is put, with the lines of the days left, is the whole. Laws for the loop's start, turn
 -- and end. What the days come to follows by series' laws of the days left. Assumes nothing.
 use Rattle.std.proofs.Common.{◌≡◌, refl, sym, ◌∙◌, ap, ℕ, zero, suc, ◌+◌, ◌*◌, ◌^◌, ◌≤◌, List, [], ◌∷◌, ◌++◌, length, arith}
-use mathlib.Core.List.{append-nil, append_assoc}
+use mathlib.Core.List.{append_assoc}
 use native.Mathlib.Nat.{mul-suc}
 use Rattle.std.proofs.lemmas.List.{take-append-drop}
 use Rattle.calendar_dates.specs.declared.Date.{Date}
@@ -16,13 +16,12 @@ use Rattle.carry.proofs.Carry.{length-figures}
 use Rattle.day_powers.specs.DayQuarters.{Basis}
 use Rattle.series.specs.Inside.{GroupValues, comes_to, with_kinds}
 use Rattle.series.proofs.OneDay.{day_powers}
-use Rattle.series.proofs.DayByDay.{SoFar, powers_from, all-done, count-fits, total-fits, day-done}
+use Rattle.series.proofs.DayByDay.{SoFar, powers_from, total-fits, day-done}
 use Rattle.series_rows.specs.Rows.{Row, row_of, day_row, rows}
 use Rattle.text.specs.declared.Page.{Page}
 use Rattle.text.specs.Inside.{Put, Room}
 use Rattle.text.proofs.Puts.{both}
 use Rattle.text_listing.specs.Listing.{line_after_line}
-use Rattle.text_listing.specs.Inside.{Listed}
 use Rattle.text_listing.proofs.Listing.{few-powers}
 
 module _ (line : DayKind → Row → List ℕ) (b : Basis) (yearly : ℕ) where
@@ -72,39 +71,15 @@ none-put line longest {b} {yearly} {carry} {days} {first} {entry} so_far =
 
 module _ {line : DayKind → Row → List ℕ} {longest : ℕ} {b : Basis} {yearly carry days : ℕ} {first : Date} {entry : Page} {left : List (Date × DayKind)} {totals : Totals} {page : Page}
     (l : LinesLeft line longest b yearly carry days first entry left totals page) where
-  -- all lines are put
-  pub all-put : left ≡ [] → Listed line longest b yearly carry days first entry totals page
-  all-put none =
-      let all : l.text ≡ line_after_line line b.holidays (rows b yearly days first carry) = sym (append-nil l.text) ∙ (rw none at l.lines_left) in
-      let sums = all-done l.so_far none in
-      let fits = l.so_far.fits in
-      record {
-        lines = rw all at l.put;
-        come_to = sums;
-        short = omega (arith, l.short);
-        few = rw sums fits.few;
-        most = rw sums fits.most;
-      }
-
   module _ {d : Date} {kind : DayKind} {rest : List (Date × DayKind)} (e : left ≡ (d, kind) ∷ rest) where
     -- the next line has room behind those so far
     next-short : page.at + longest + longest * length rest ≤ entry.at + longest * days
     next-short = omega (arith, rw e at l.short, mul-suc longest (length rest))
 
-    pub line-room : Room (longest * days) entry → Room longest page
-    line-room room =
-        let kept = l.put.kept in
-        omega (arith, next-short)
-
     -- and is put there
     module _ {today : Totals} (t : today ≡ comes_to yearly (day_powers b d) totals.carry) where
       pub few-counted : GroupValues b.values → today.count ≤ 100
       few-counted sound = rw t (few-powers b d sound.whole)
-
-      pub count-room : totals.count + today.count ≤ 146_100
-      count-room =
-          let few = l.so_far.fits.few in
-          rw t (omega (arith, count-fits l.so_far e))
 
       pub total-room : totals.total + today.total ≤ 146_100 * 10 ^ 9
       total-room = rw t (total-fits l.so_far e)
