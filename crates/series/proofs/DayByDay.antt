@@ -163,6 +163,14 @@ module _ {b : Basis} {yearly carry : ℕ} {whole done : List ℕ} {left : List (
         let sums = ap (λ (t : Totals). t.total) parts in
         omega arith
 
+    -- what they come to is part of the whole
+    pub day-part : totals.total + sum (figures yearly (day_powers b d) totals.carry) ≤ sum (figures yearly whole carry)
+    day-part =
+        let parts = comes-together yearly carry (done ++ day_powers b d) (powers_on b rest) in
+        let totals_of = ap (λ (t : Totals). t.total) with_today in
+        let sums = ap (λ (t : Totals). t.total) parts in
+        rw (sym joined) (omega arith)
+
     -- a turn
     pub day-done : {r : Totals} → r ≡ together totals today → SoFar b yearly carry whole (done ++ day_powers b d) rest r
     day-done h =

@@ -2,6 +2,7 @@
 ghost use Rattle.std.specs.Prelude.{◌≡◌, ◌≤◌, ℕ, get_or};
 ghost use Rattle.refusal.specs.Questions.{Pass};
 ghost use Rattle.calendar_dates.specs.Dates.{day_of_year, AllDates};
+ghost use Rattle.calendar_days.specs.Days.{day_kind};
 ghost use Rattle.calendar_holidays.specs.Holidays.{holidays_question};
 ghost use Rattle.calendar_period.specs.Period.{dates_from};
 ghost use Rattle.dynamisation.specs.Dynamisation.{F};
@@ -64,6 +65,16 @@ impl<'a> Basis<'a> {
         KindDays::new(period.dates(), HolidaysAhead::new(self.holidays))
     }
 
+    // A day's season and day type.
+    pub fn kind_on(&self, day: CalendarDay) -> DayKind
+        ensures { result ≡ day_kind day self.now.holidays }
+    {
+        DayKind {
+            season: calendar_days::season_of(day),
+            day_type: calendar_days::day_type_of(day, self.holidays),
+        }
+    }
+
     // The powers of a day of a kind, before the clock change.
     // Kept: a day and its kind one by one, as the iterator gives them.
     pub fn powers(&self, day: CalendarDay, kind: DayKind) -> [u32; 96]
@@ -71,11 +82,22 @@ impl<'a> Basis<'a> {
         ensures small { (i : ℕ) → get_or result i 0 ≤ 40_000 }
         ensures group_values { GroupValues self.now.values }
     {
-        let table = day_powers::day_table_index(kind.season, kind.day_type);
-        day_powers::powers_of(
-            self.values,
-            table,
-            dynamisation::factor(self.group, day.day_of_year()),
-        )
+        powers_on(self.values, self.group, day, kind)
     }
+}
+
+// The same of a group's values alone, for who has no list of holidays.
+// Kept: values and group one by one, since a Basis has a list too, which is not asked for here.
+#[inline(always)]
+pub fn powers_on(values: &[u16], group: u8, day: CalendarDay, kind: DayKind) -> [u32; 96]
+    requires { GroupValues values.now }
+    ensures value { result ≡ powers_by (F group (day_of_year day)) (day_table_at (day_table_of kind) values.now) }
+    ensures small { (i : ℕ) → get_or result i 0 ≤ 40_000 }
+{
+    let table = day_powers::day_table_index(kind.season, kind.day_type);
+    day_powers::powers_of(
+        values,
+        table,
+        dynamisation::factor(group, day.day_of_year()),
+    )
 }

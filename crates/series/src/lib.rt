@@ -11,7 +11,7 @@ ghost use Rattle.day_powers.specs.DayQuarters.{day_quarters};
 ghost use Rattle.series.specs.Inside.{InRange, Filled};
 ghost use Rattle.series.specs.Series.{quarters_of_days};
 
-pub use basis::Basis;
+pub use basis::{Basis, powers_on};
 use calendar_dates::CalendarDay;
 use calendar_days::DayKind;
 use calendar_period::Period;

@@ -14,10 +14,38 @@ use calendar_period::Period;
 use carry::Totals;
 use series::Basis;
 
-// What one day comes to.
-// Kept: yearly use and carry as two arguments, the use beside the basis, and a day with its kind, for the reasons at `series::expand_day`, here
-// and below.
-pub fn total_day(basis: &Basis, day: CalendarDay, kind: DayKind, yearly: u32, carry: u32) -> Totals
+// A day worked out, none of its figures stored: its season and day type, and what its figures come to.
+#[derive(Clone, Copy, Debug, PartialEq, Eq)]
+pub struct DayTotals {
+    pub kind: DayKind,
+    pub totals: Totals,
+}
+
+// Works one day out.
+// Kept: yearly use and carry as two arguments, and the use beside the basis, for the reasons at `series::expand_day`, here and below.
+pub fn total_day(basis: &Basis, day: CalendarDay, yearly: u32, carry: u32) -> DayTotals
+    requires { InRange yearly carry }
+    ensures { result ≡ record {
+      kind = day_kind day basis.now.holidays;
+      totals = comes_to yearly (powers (day_quarters basis.now day)) carry;
+    } }
+{
+    let kind = basis.kind_on(day);
+    DayTotals {
+        kind,
+        totals: total_of_kind(basis, day, kind, yearly, carry),
+    }
+}
+
+// What one day comes to whose kind is known, as it is of the days of a period, for which the holidays are gone through once.
+// Kept: a day with its kind, for the reason at `series::expand_day`.
+pub fn total_of_kind(
+    basis: &Basis,
+    day: CalendarDay,
+    kind: DayKind,
+    yearly: u32,
+    carry: u32,
+) -> Totals
     requires own_kind { kind ≡ day_kind day basis.now.holidays }
     requires in_range { InRange yearly carry }
     ensures { result ≡ comes_to yearly (powers (day_quarters basis.now day)) carry }
@@ -42,7 +70,7 @@ pub fn total_days(basis: &Basis, period: Period, yearly: u32, carry: u32) -> Tot
         ..Totals::default()
     };
     for (day, kind) in basis.days(period) {
-        let today = total_day(basis, day, kind, yearly, so_far.carry);
+        let today = total_of_kind(basis, day, kind, yearly, so_far.carry);
         so_far = so_far.and(today);
     }
     so_far

@@ -32,7 +32,7 @@ pub fn list_days<L: DayLine>(
         ..Totals::default()
     };
     for (day, kind) in basis.days(period) {
-        let today = series_totals::total_day(basis, day, kind, yearly, so_far.carry);
+        let today = series_totals::total_of_kind(basis, day, kind, yearly, so_far.carry);
         let entry = DayEntry {
             day,
             kind,

@@ -16,13 +16,13 @@ loop-day-init c =
           (start c.args.basis.now days.group_values p.days p.first c.requires days.few days.real);
     }
 
-pub total_day-today-requires-clause-in_range : goal.total_day-today-requires-clause-in_range
-total_day-today-requires-clause-in_range c = in-range c.loop-day.invariant.so_far
+pub total_of_kind-today-requires-clause-in_range : goal.total_of_kind-today-requires-clause-in_range
+total_of_kind-today-requires-clause-in_range c = in-range c.loop-day.invariant.so_far
 
 pub and-so_far-requires-clause-total : goal.and-so_far-requires-clause-total
 and-so_far-requires-clause-total c =
-    let today = ap (λ (t : Totals). t.total) c.total_day-today.ensures in
+    let today = ap (λ (t : Totals). t.total) c.total_of_kind-today.ensures in
     omega (arith, total-fits c.loop-day.invariant.so_far c.in-Some.ensures.steps)
 
 pub loop-day-preserved : goal.loop-day-preserved
-loop-day-preserved c = day-summed c.loop-day.invariant c.in-Some.ensures.steps c.total_day-today.ensures c.and-so_far.ensures
+loop-day-preserved c = day-summed c.loop-day.invariant c.in-Some.ensures.steps c.total_of_kind-today.ensures c.and-so_far.ensures

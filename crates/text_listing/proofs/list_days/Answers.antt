@@ -13,27 +13,27 @@ loop-day-init g c =
     rw (c.into_iter-day-iterator.ensures.into_iter_gives, days.value, zero.0, zero.1.0)
     (none-put g.L.DayLine.line g.L.DayLine.longest (start c.args.basis.now days.group_values p.days p.first c.requires.in_range days.few days.real))
 
-pub total_day-today-requires-clause-in_range : goal.total_day-today-requires-clause-in_range
-total_day-today-requires-clause-in_range g c = in-range c.loop-day.invariant.so_far
+pub total_of_kind-today-requires-clause-in_range : goal.total_of_kind-today-requires-clause-in_range
+total_of_kind-today-requires-clause-in_range g c = in-range c.loop-day.invariant.so_far
 
 pub put-requires-clause-count_bound : goal.put-requires-clause-count_bound
 put-requires-clause-count_bound g c =
-    omega (arith, few-counted c.loop-day.invariant c.in-Some.ensures.steps c.total_day-today.ensures c.days-day-items.ensures.group_values)
+    omega (arith, few-counted c.loop-day.invariant c.in-Some.ensures.steps c.total_of_kind-today.ensures c.days-day-items.ensures.group_values)
 
 pub put-requires-clause-watt_hours_bound : goal.put-requires-clause-watt_hours_bound
 put-requires-clause-watt_hours_bound g c =
-    omega (arith, total-room c.loop-day.invariant c.in-Some.ensures.steps c.total_day-today.ensures)
+    omega (arith, total-room c.loop-day.invariant c.in-Some.ensures.steps c.total_of_kind-today.ensures)
 
 pub and-so_far-requires-clause-total : goal.and-so_far-requires-clause-total
 and-so_far-requires-clause-total g c =
-    omega (arith, total-room c.loop-day.invariant c.in-Some.ensures.steps c.total_day-today.ensures)
+    omega (arith, total-room c.loop-day.invariant c.in-Some.ensures.steps c.total_of_kind-today.ensures)
 
 pub loop-day-preserved : goal.loop-day-preserved
 loop-day-preserved g c =
-    let today = c.total_day-today.result in
+    let today = c.total_of_kind-today.result in
     let l = c.loop-day.invariant in
     let steps = c.in-Some.ensures.steps in
-    let e = c.total_day-today.ensures in
+    let e = c.total_of_kind-today.ensures in
     let few = few-counted l steps e c.days-day-items.ensures.group_values in
     let most = total-room l steps e in
     let short = g.met.L.DayLine.within c.in-Some.kind (row_of c.in-Some.day today.count today.total) (omega arith) (omega arith) in

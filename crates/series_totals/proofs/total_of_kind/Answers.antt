@@ -1,7 +1,7 @@
--- `series_totals::total_day` meets its contract: the day's powers and clock are its own (proofs/Summing.antt).
+-- `series_totals::total_of_kind` meets its contract: the day's powers and clock are its own (proofs/Summing.antt).
 use Rattle.series.proofs.OneDay.{own-kind}
 use Rattle.series_totals.proofs.Summing.{day-total}
-use Rattle.series_totals.proofs.total_day.Goals as goal
+use Rattle.series_totals.proofs.total_of_kind.Goals as goal
 
 pub returns : goal.returns
 returns c =
