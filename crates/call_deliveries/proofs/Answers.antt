@@ -1,14 +1,15 @@
 -- What each way through the call comes to, and that the differences worked out are those that are defined. Assumes nothing.
-use Rattle.std.proofs.Common.{◌≡◌, refl, sym, ◌∙◌, ap, ℕ, suc, ℤ, ◌≤◌, List, [], ◌∷◌, ◌++◌, length, drop, Err, arith}
+use Rattle.std.proofs.Common.{◌≡◌, refl, sym, ◌∙◌, ap, ℕ, suc, ℤ, ◌≤◌, List, [], ◌∷◌, ◌++◌, length, map, drop, Err, arith}
 use borrow.Author.Tests.{leb-true}
 use Rattle.refusal.specs.declared.Refusal.{Refusal}
 use Rattle.refusal.specs.declared.Refusal.TheVariants.{BadUse}
 use Rattle.refusal.specs.Questions.{Verdict, Pass, reported, ◌then◌}
 use Rattle.refusal.proofs.Questions.{refused-second, passed-second, then-first, then_next, ask-passed, room-passed}
 use Rattle.calendar_holidays.specs.Holidays.{holidays_question}
-use Rattle.calendar_period.specs.Period.{period_check}
+use Rattle.calendar_dates.specs.Dates.{date_of}
+use Rattle.calendar_period.specs.Period.{period_check, period_days}
 use Rattle.calendar_period.proofs.Periods.{Period, period-passed}
-use Rattle.calendar_reading_periods.specs.ReadingPeriods.{readings_question, first_dates_question, end_of, reading_periods}
+use Rattle.calendar_reading_periods.specs.ReadingPeriods.{readings_question, first_dates_question, ReadingPeriod, end_of, reading_periods}
 use Rattle.calendar_reading_periods.specs.Inside.{periods_of}
 use Rattle.calendar_reading_periods.proofs.ReadingPeriods.{Counted, counted}
 use Rattle.carry.specs.Carry.{largest_use}
@@ -37,6 +38,17 @@ same-differences q last (kWh ∷ metered) (start ∷ starts) carry =
     let this = of_period q (record { first = start; last = end_of last start starts }) carry in
     ap (λ (zs : List ℤ). difference kWh (totals this).total ∷ zs) (same-differences q last metered starts (totals this).carry)
 
+-- the same of any periods
+pub any-differences : (q : Request) (metered : List ℕ) (periods : List ReadingPeriod) (carry : ℕ) →
+    differences_from (basis_of q) q.yearly metered (map (λ p. period_days (date_of p.first) (date_of p.last)) periods) carry
+    ≡ differences_of metered (carried_through q periods carry)
+unfolding differences_from differences_of carried_through series
+any-differences q [] periods carry = refl
+any-differences q (kWh ∷ metered) [] carry = refl
+any-differences q (kWh ∷ metered) (p ∷ periods) carry =
+    let this = of_period q p carry in
+    ap (λ (zs : List ℤ). difference kWh (totals this).total ∷ zs) (any-differences q metered periods (totals this).carry)
+
 -- what is known where every question passed
 pub record Accepted (d : Deliveries) : Type 0 where
   pub ahead : ahead_of_period d.file d.group ≡ Pass
@@ -55,7 +67,7 @@ module _ (d : Deliveries) where
   abbrev pub behind : Verdict
   behind = behind_span d.first d.last d.starts (length d.metered) d.holidays d.yearly (length d.output)
 
-  all-passed : span ≡ Pass → behind ≡ Pass → deliveries_check d ≡ Pass
+  pub all-passed : span ≡ Pass → behind ≡ Pass → deliveries_check d ≡ Pass
   unfolding deliveries_check
   all-passed s b = passed-second _ _ _ s ∙ b
 

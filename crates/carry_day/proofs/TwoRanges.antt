@@ -33,10 +33,10 @@ second-small limit [] ys h i = h i
 second-small limit (x ∷ xs) ys h i = second-small limit xs ys (λ j. h (suc j)) i
 
 -- the day's two ranges
-module _ (powers one two : List ℕ) (clock : Clock) {yearly carry : ℕ} (joined : one ++ two ≡ positions clock powers) (small : SmallPowers powers yearly carry) where
+module _ (powers one two : List ℕ) (clock : Clock) {yearly carry : ℕ} (joined : one ++ two ≡ positions clock powers) where
   -- the second begins with the carry that the first leaves
-  pub second-range : {before middle : List ℕ} {first : Carried} → RangeCarried one yearly carry before first middle → SmallPowers two yearly first.carry
-  second-range f =
+  pub second-range : {before middle : List ℕ} {first : Carried} → SmallPowers powers yearly carry → RangeCarried one yearly carry before first middle → SmallPowers two yearly first.carry
+  second-range small f =
       record {
         small = second-small 40_000 one two (rw joined (positions-small clock powers small.small));
         yearly_small = small.yearly_small;

@@ -52,7 +52,7 @@ powers-small values index f h k i =
     let product : p * f ≤ 20_000 * 20_000 = mul-le-mul small k in
     omega (arith, get_or-powers f (day_table_at index values) i)
 
-length-day-values : (values holidays : List ℕ) (d : Date) → length values ≡ 864 → length (day_values values holidays d) ≡ 96
+pub length-day-values : (values holidays : List ℕ) (d : Date) → length values ≡ 864 → length (day_values values holidays d) ≡ 96
 unfolding day_values
 length-day-values values holidays d h =
     let both = places (season d) (day_type d holidays) in

@@ -24,7 +24,7 @@ pub same-itself : (a : List ℕ) → same a a ≡ true
 same-itself [] = refl
 same-itself (x ∷ a) = rw (eq-eqb x x refl) (same-itself a)
 
-same-is-equal : SameIsEqual
+pub same-is-equal : SameIsEqual
 unfolding SameIsEqual
 same-is-equal a b = (same-equal a b, λ e. rw e (same-itself b))
 

@@ -1,14 +1,16 @@
 -- What a header that passed questions 1 to 3 tells, by name. Assumes nothing.
-use mathlib.Core.Path.{◌≡◌}
+use mathlib.Core.Path.{◌≡◌, sym}
 use mathlib.Core.List.{List}
 use Prim.Native.Nat.{ℕ, ◌+◌, ◌*◌, ◌≤◌}
 use native.Mathlib.Omega.{arith}
 use lib.ListN.{length, length-take, length-drop}
 use borrow.Author.Tests.{leb-true, eqb-true}
+use Rattle.std.specs.Prelude.{Err}
+use Rattle.std.proofs.lemmas.Bool.{false_from_ne_true}
 use Rattle.big_endian.specs.BigEndian.{byte_at, word_at}
 use Rattle.refusal.specs.Questions.{Pass}
 use Rattle.refusal.specs.declared.Refusal.TheVariants.{NoMark, WrongVersion, WrongLength}
-use Rattle.refusal.proofs.Questions.{ask-passed, then-first, then_next, both}
+use Rattle.refusal.proofs.Questions.{ask-yes, ask-no, ask-passed, then-first, then_next, both}
 use Rattle.file_layout.specs.declared.Layout.{Layout}
 use Rattle.file_layout.specs.Header.{mark, header_length, layout_of, profile_length, file_length, mark_question, version_question, length_question, header_check}
 use Rattle.file_layout.specs.Inside.{Sound, LaidOut, value_bytes}
@@ -58,6 +60,10 @@ marked file h =
       letter2 = eqb-true _ _ all.1;
     }
 
+pub no-mark : (file : List ℕ) → (Marked file → ⊥) → Err NoMark ≡ mark_question file
+unfolding mark_question
+no-mark file never = sym (ask-no NoMark (false_from_ne_true _ (λ h. never (marked file (ask-yes NoMark h)))))
+
 -- question 3 passed
 pub record Counted (layout : Layout) (file : List ℕ) : Type 0 where
   pub some : 1 ≤ layout.count
@@ -70,6 +76,10 @@ counted layout file h =
     let all = both _ _ (ask-passed _ WrongLength h) in
     let ends = both _ _ all.0 in
     record { some = leb-true _ _ ends.0; most = leb-true _ _ ends.1; whole = eqb-true _ _ all.1 }
+
+pub wrong-length : (layout : Layout) (file : List ℕ) → (Counted layout file → ⊥) → Err WrongLength ≡ length_question layout file
+unfolding length_question
+wrong-length layout file never = sym (ask-no WrongLength (false_from_ne_true _ (λ h. never (counted layout file (ask-yes WrongLength h)))))
 
 pub header_long : (file : List ℕ) → mark_question file ≡ Pass → header_length ≤ length file
 header_long file h = (marked file h).long

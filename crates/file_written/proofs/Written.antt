@@ -13,13 +13,13 @@ use Rattle.lists.specs.Lists.{each_from}
 use Rattle.big_endian.specs.BigEndian.{byte_at, word_at, words_from, bytes_of}
 use Rattle.file_written.specs.Written.{profiles_of, written}
 
-byte-there : (file : List ℕ) (at k : ℕ) {rest : List ℕ} → drop at file ≡ rest → byte_at file (at + k) ≡ get_or rest k 0
+pub byte-there : (file : List ℕ) (at k : ℕ) {rest : List ℕ} → drop at file ≡ rest → byte_at file (at + k) ≡ get_or rest k 0
 byte-there file at k e = sym (get_or-drop at file k 0) ∙ ap (λ (l : List ℕ). get_or l k 0) e
 
-byte-here : (file : List ℕ) (at : ℕ) {rest : List ℕ} → drop at file ≡ rest → byte_at file at ≡ get_or rest 0 0
+pub byte-here : (file : List ℕ) (at : ℕ) {rest : List ℕ} → drop at file ≡ rest → byte_at file at ≡ get_or rest 0 0
 byte-here file at e = ap (λ (k : ℕ). byte_at file k) (sym (add-zero at)) ∙ byte-there file at 0 e
 
-from-there : (file : List ℕ) (at k : ℕ) {rest : List ℕ} → drop at file ≡ rest → drop (at + k) file ≡ drop k rest
+pub from-there : (file : List ℕ) (at k : ℕ) {rest : List ℕ} → drop at file ≡ rest → drop (at + k) file ≡ drop k rest
 from-there file at k e = sym (drop-drop k at file) ∙ ap (λ (l : List ℕ). drop k l) e
 
 pub length-bytes : (values : List ℕ) → length (bytes_of values) ≡ length values * 2
@@ -28,7 +28,7 @@ length-bytes [] = refl
 length-bytes (v ∷ values) = omega (arith, length-bytes values)
 
 -- values that were written are read back
-words_back : (file values rest : List ℕ) (at : ℕ) → drop at file ≡ bytes_of values ++ rest →
+pub words_back : (file values rest : List ℕ) (at : ℕ) → drop at file ≡ bytes_of values ++ rest →
     words_from file (length values) at ≡ values
 unfolding bytes_of each_from
 words_back file [] rest at e = refl

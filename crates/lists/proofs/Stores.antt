@@ -8,7 +8,7 @@ use native.Mathlib.Omega.{arith}
 use lib.ListN.{length, take, drop, set, length-append, length-drop}
 use borrow.Rule.Slice.PartMut.{put_mid}
 use Rattle.std.proofs.lemmas.List.{take_at, drop_at, drop-drop, take_all, drop_all, append-nil}
-use lib.Seq.{sets, sets-eq, length-sets}
+use lib.Seq.{sets, sets-eq, set_comm, length-sets}
 
 module _ {A : Type 0} where
   -- where there is room: the old content, the n entries of the list, and the old content beyond them
@@ -46,6 +46,12 @@ module _ {A : Type 0} where
       let next : suc at + length first ≡ at + suc (length first) = omega arith in
       sets-append (set memory at x) first second (suc at) ∙ rw next
 
+  -- a store behind a list's comes before or after them
+  set-behind : (list memory : List A) (at there : ℕ) (x : A) → at + length list ≤ there → sets (set memory there x) at list ≡ set (sets memory at list) there x
+  set-behind [] memory at there x h = refl
+  set-behind (y ∷ list) memory at there x h =
+      rw (set_comm memory there at x y (λ e. omega arith)) (set-behind list (set memory at y) (suc at) there x (omega arith))
+
 -- A loop stores a list by turns: the stores of what is left, from `at` on, come to those of the whole.
 pub record Storing {A : Type 0} (before : List A) (from : ℕ) (whole memory : List A) (at : ℕ) (left : List A) : Type 0 where
   pub comes : sets memory at left ≡ sets before from whole
@@ -66,6 +72,15 @@ module _ {A : Type 0} {before whole memory left : List A} {from at : ℕ} (loop 
 
   pub one-stored : {x : A} {rest : List A} {there : ℕ} → left ≡ x ∷ rest → there ≡ at + 1 → Storing before from whole (set memory at x) there rest
   one-stored {x} e n = some_stored (x ∷ []) e refl n
+
+  -- the last of what is left
+  pub last_stored : (x : A) {rest : List A} {there : ℕ} → left ≡ rest ++ (x ∷ []) → there ≡ at + length rest →
+      Storing before from whole (set memory there x) at rest
+  last_stored x {rest} {there} e n =
+      record {
+        comes = set-behind rest memory at there x (omega arith) ∙ rw n (sym (sets-append memory rest (x ∷ []) at)) ∙ rw e at loop.comes;
+        kept = length-sets memory there (x ∷ []) ∙ loop.kept;
+      }
 
   -- nothing is left
   pub all-stored : left ≡ [] → memory ≡ sets before from whole

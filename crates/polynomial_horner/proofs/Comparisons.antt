@@ -33,7 +33,7 @@ at_most a b = go (leb a b) refl
     go true e = split (eq-or-lt_of_le (leb-true a b e))
     go false e = let above : b < a = leb-false a b e in rw (le-ltb a b (omega arith), ne_eqb a b (λ (same : a ≡ b). omega arith)) refl
 
-le-whole : (x y : Float) (a b : ℕ) → HasValue x false a 1 → HasValue y false b 1 → le x y ≡ leb a b
+pub le-whole : (x y : Float) (a b : ℕ) → HasValue x false a 1 → HasValue y false b 1 → le x y ≡ leb a b
 unfolding le
 le-whole nan y a b p q = elim p [ ]
 le-whole (inf _) y a b p q = elim p [ ]
@@ -56,7 +56,7 @@ never a b h = go (eqb a b) (eqb a 0) refl refl
     go true false e f = refl
     go true true e f = absurd (omega (arith, eqb-true a b e, eqb-true a 0 f))
 
-le-negative : (x y : Float) (a b : ℕ) → HasValue x false a 1 → HasValue y true (suc b) 1 → le x y ≡ false
+pub le-negative : (x y : Float) (a b : ℕ) → HasValue x false a 1 → HasValue y true (suc b) 1 → le x y ≡ false
 unfolding le
 le-negative nan y a b p q = elim p [ ]
 le-negative (inf _) y a b p q = elim p [ ]

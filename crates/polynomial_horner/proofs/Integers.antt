@@ -17,7 +17,7 @@ exchange a b c d =
     ∙ ap (λ (k : ℤ). a +ℤ k) (sym (+ℤ_assoc b c d) ∙ ap (λ (k : ℤ). k +ℤ d) (+ℤ_comm b c) ∙ +ℤ_assoc c b d)
     ∙ sym (+ℤ_assoc a c (b +ℤ d))
 
-sum-product : (x y : ℤ) (t : ℕ) → (x +ℤ y) *ℤ pos t ≡ x *ℤ pos t +ℤ y *ℤ pos t
+pub sum-product : (x y : ℤ) (t : ℕ) → (x +ℤ y) *ℤ pos t ≡ x *ℤ pos t +ℤ y *ℤ pos t
 sum-product x y zero = *ℤ-zero (x +ℤ y) ∙ sym (ap (λ (k : ℤ). k +ℤ y *ℤ pos zero) (*ℤ-zero x) ∙ ap (λ (k : ℤ). pos zero +ℤ k) (*ℤ-zero y))
 sum-product x y (suc t) =
     product-suc (x +ℤ y) t

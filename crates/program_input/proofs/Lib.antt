@@ -1,1 +1,2 @@
 pub mod AskedEntries
+pub mod Complete

@@ -21,7 +21,7 @@ pub front-none : (k : ℕ) → front k 0 ≡ []
 front-none zero = refl
 front-none (suc k) = refl
 
-front-some : (k n : ℕ) → 0 < n → front k n ≡ digits k n
+pub front-some : (k n : ℕ) → 0 < n → front k n ≡ digits k n
 unfolding digits
 front-some zero n h = refl
 front-some (suc k) zero h = absurd (omega arith)
@@ -35,7 +35,7 @@ digits_last k n =
     (λ some. rw (le-ltb n 10 (omega arith), front-some k (n / 10) some))
     (eq-zero-or-pos (n / 10))
 
-digits-count : (k n : ℕ) → length (digits (suc k) n) ≡ suc (length (front k (n / 10)))
+pub digits-count : (k n : ℕ) → length (digits (suc k) n) ≡ suc (length (front k (n / 10)))
 digits-count k n = rw (digits_last k n) (omega (arith, length-append (front k (n / 10)) (digit (n % 10) ∷ [])))
 
 -- a number below 10 ^ j has at most j digits

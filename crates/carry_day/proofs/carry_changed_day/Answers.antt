@@ -7,5 +7,4 @@ carry_range-after-requires-clause-small_powers c = second-range _ _ _ _ c.ranges
 
 pub returns : goal.returns
 returns c =
-    day _ _ _ _ c.ranges_of.ensures.joined c.requires.small_powers c.ranges_of.ensures.count c.requires.room c.carry_range-before.ensures
-    c.carry_range-after.ensures
+    day _ _ _ _ c.ranges_of.ensures.joined c.ranges_of.ensures.count c.requires.room c.carry_range-before.ensures c.carry_range-after.ensures

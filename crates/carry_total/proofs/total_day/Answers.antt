@@ -21,4 +21,4 @@ overflow_add-energy-2 c =
     (omega (arith, c.requires.in_range, energy-small _ _ _ _ _ _ r.joined c.requires r.first_short r.second_short))
 
 pub returns : goal.returns
-returns c = rw (c.sum_of.ensures, c.sum_of-2.ensures) (day-total c.args.powers c.ranges_of.result.0.now c.ranges_of.result.1.now c.args.clock c.args.yearly c.args.carry c.ranges_of.ensures.joined c.requires)
+returns c = rw (c.sum_of.ensures, c.sum_of-2.ensures) (day-total c.args.powers c.ranges_of.result.0.now c.ranges_of.result.1.now c.args.clock c.args.yearly c.args.carry c.ranges_of.ensures.joined c.requires.in_range)
