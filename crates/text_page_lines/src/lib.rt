@@ -32,6 +32,7 @@ fn put_amounts(count: usize, watt_hours: u64, page: &mut Page)
 }
 
 // The day page's form of a day's line.
+#[derive(Clone, Copy)]
 pub struct PageLine;
 
 impl DayLine for PageLine {

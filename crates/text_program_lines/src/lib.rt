@@ -12,6 +12,7 @@ use text::Page;
 use text_fields::{DayEntry, DayLine};
 
 // The program's form of a day's line.
+#[derive(Clone, Copy)]
 pub struct ProgramLine;
 
 impl DayLine for ProgramLine {
