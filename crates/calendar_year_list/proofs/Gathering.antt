@@ -7,8 +7,7 @@ use native.Mathlib.Omega.{arith}
 use native.Mathlib.Numerals.{add-one}
 use lib.ListN.{length, length-append, get_or, drop, drop_of_length-le}
 use lib.Seq.{drop-cons}
-use denote.Ref.{Bor}
-use Rattle.std.specs.Prelude.{Option, None, Some, option_copied, slice_get}
+use Rattle.std.specs.Prelude.{Option, None, Some, slice_get}
 use Rattle.std.specs.Option.{option_eq}
 use Rattle.std.proofs.lemmas.List.{append_assoc}
 use lib.Dec.{ltb, eqb}
@@ -98,8 +97,10 @@ module _ (days : List (Option ℕ)) (i : ℕ) (default : Option ℕ) (h : i < le
 pub none_left : (days : List (Option ℕ)) (i : ℕ) → length days ≤ i → wanted (drop i days) ≡ []
 none_left days i h = rw (drop_of_length-le days {i = i} h) refl
 
--- what the test of the last date tells
-pub tested : (date : Bor ℕ) (last : Option (Bor ℕ)) →
-    option_eq (λ x y. eqb x.now y.now) last (Some date) ≡ option_eq eqb (option_copied last) (Some date.now)
-tested date None = refl
-tested date (Some x) = refl
+-- a date put behind others is the last of them
+pub last_put : (date : ℕ) (dates : List ℕ) → slice_get (dates ++ date ∷ []) (length (dates ++ date ∷ []) - 1) ≡ Some date
+last_put date [] = refl
+last_put date (x ∷ dates) =
+    let e : length (x ∷ (dates ++ date ∷ [])) - 1 ≡ suc (length (dates ++ date ∷ []) - 1) =
+    omega (arith, length-append dates (date ∷ [])) in
+    rw e (last_put date dates)

@@ -55,18 +55,20 @@ fn calendar_days(year: Year, choice: u8) -> [Option<u32>; MOST_DAYS]
 
 // The dates of the days that are wanted, in order, each once. Asked of the caller: among the dates that are wanted none comes before an
 // earlier one.
-#[tactic(auto, using(crate::proofs::Gathering::not_wanted, crate::proofs::Gathering::one_wanted, crate::proofs::Gathering::none_left, crate::proofs::Gathering::tested, crate::proofs::Gathering::appended_in_order))]
+#[tactic(auto, using(crate::proofs::Gathering::not_wanted, crate::proofs::Gathering::one_wanted, crate::proofs::Gathering::none_left, crate::proofs::Gathering::last_put, crate::proofs::Gathering::appended_in_order))]
 fn wanted_dates(days: &[Option<u32>]) -> ArrayVec<u32, MOST_DAYS>
     requires few { length days.now ≤ 17 }
     requires not_falling { NotFalling (wanted days.now) }
     ensures { result.items ≡ in_order (wanted days.now) }
 {
     let mut dates = ArrayVec::new();
+    let mut last = None;
     for day in days {
         if let Some(date) = day
-            && dates.last() != Some(date)
+            && last != Some(*date)
         {
             dates.push(*date);
+            last = Some(*date);
         }
     }
     dates
